@@ -1,0 +1,26 @@
+-- A draw among m faces from a tape of words (document 01, "Coins"). Definitions only: they assume nothing.
+use mathlib.Core.List.{List, [], _∷_}
+use Prim.Native.Nat.{ℕ, suc, _*_, _/_, _%_, _^_}
+use lib.ListN.{drop}
+use Rattle.cases.specs.Cases.{ifEq, ifLt}
+use Rattle.draw.specs.declared.Drawn.{Drawn}
+use Rattle.draw.specs.declared.Drawn.the-variants.{Face, Ended}
+
+-- Words are read until one is below the limit; the face is that word mod m. `at` is the place of the first word.
+unfoldable pub scan : ℕ → ℕ → List ℕ → ℕ → Drawn
+scan limit m [] at = Ended
+scan limit m (word ∷ words) at = ifLt word limit (Face (word % m) (suc at)) (scan limit m words (suc at))
+
+-- The draw among m faces from words below W, read from the place `at` on: m = 1 reads nothing and gives 0.
+-- m = 0 has the limit 0, which no word is below.
+unfoldable pub drawFrom : ℕ → ℕ → List ℕ → ℕ → Drawn
+drawFrom W m tape at = ifEq m 1 (Face 0 at) (scan (m * (W / m)) m (drop at tape) at)
+
+-- The draw from a tape of 32-bit words.
+unfoldable pub drawAt : ℕ → List ℕ → ℕ → Drawn
+drawAt = drawFrom (2 ^ 32)
+
+-- The place on the tape after a draw: past the last word read, or what it was where the draw ended.
+abbrev pub placeAfter : ℕ → Drawn → ℕ
+placeAfter at (Face face next) = next
+placeAfter at Ended = at

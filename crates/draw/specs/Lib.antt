@@ -1,0 +1,5 @@
+-- The draw from a tape: its definition, its laws, and that every face has equally many runs of words.
+pub mod Draw
+pub mod DrawLaws
+pub mod Runs
+pub mod Fair
