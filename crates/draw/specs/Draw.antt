@@ -2,7 +2,7 @@
 use mathlib.Core.List.{List, [], _∷_}
 use Prim.Native.Nat.{ℕ, suc, _*_, _/_, _%_, _^_}
 use lib.ListN.{drop}
-use Rattle.cases.specs.Cases.{ifEq, ifLt}
+use Rattle.base.specs.Cases.{ifEq, ifLt}
 use Rattle.draw.specs.declared.Drawn.{Drawn}
 use Rattle.draw.specs.declared.Drawn.the-variants.{Face, Ended}
 

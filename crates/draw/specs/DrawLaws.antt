@@ -1,5 +1,5 @@
 -- Laws of the draw: what one word decides, when a draw ends, and that a face is below m. Assumes nothing.
-use mathlib.Core.Path.{_≡_, refl, ap, sym, _∙_, subst}
+use mathlib.Core.Path.{_≡_, refl, _∙_}
 use mathlib.Core.Logic.{_≢_}
 use mathlib.Core.List.{List, [], _∷_}
 use Prim.Native.Nat.{ℕ, zero, suc, _+_, _*_, _/_, _%_, _<_, _≤_, _^_}
@@ -8,7 +8,7 @@ use native.Mathlib.Numerals.{add-one}
 use native.Mathlib.Nat.{div-mul-le-self, mod-lt, mul-comm, zero-mul}
 use lib.ListN.{length, getD, drop, drop-of-length-le}
 use lib.Seq.{drop-cons}
-use Rattle.cases.specs.CaseLaws.{ifEq-yes, ifEq-no, ifLt-yes, ifLt-no, by-eq, by-lt}
+use Rattle.base.specs.CaseLaws.{ifEq-yes, ifEq-no, ifLt-yes, ifLt-no, by-eq, by-lt}
 use Rattle.draw.specs.declared.Drawn.{Drawn}
 use Rattle.draw.specs.declared.Drawn.the-variants.{Face, Ended}
 use Rattle.draw.specs.Draw.{scan, drawFrom, drawAt}

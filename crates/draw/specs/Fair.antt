@@ -1,6 +1,6 @@
 -- Every face has equally many runs of words, for each m and each number of words read. Assumes nothing.
 use mathlib.Core.Path.{_≡_, refl, ap, ap₂, sym, _∙_, fun-ext}
-use mathlib.Core.Bool.{Bool, true, false, _&&_, and-true, and-false}
+use mathlib.Core.Bool.{Bool, false, and-true, and-false}
 use mathlib.Core.Logic.{_≢_, ⊎-elim}
 use mathlib.Core.List.{List, [], _∷_}
 use Prim.Native.Nat.{ℕ, zero, suc, _+_, _*_, _/_, _%_, _<_, _≤_, _^_}
@@ -9,10 +9,8 @@ use native.Mathlib.Nat.{zero-add, add-zero, add-suc, mul-zero, zero-mul, suc-mul
 use borrow.Author.Tests.{eq-eqb, ne-eqb}
 use lib.Arith.{digits-mod}
 use lib.Dec.{eqb, eqb·suc-suc, eqb·zero-suc}
-use Rattle.cases.specs.CaseLaws.{eq-or-ne, by-lt}
-use Rattle.draw.specs.declared.Drawn.{Drawn}
-use Rattle.draw.specs.declared.Drawn.the-variants.{Face, Ended}
-use Rattle.draw.specs.Draw.{scan, drawFrom}
+use Rattle.base.specs.CaseLaws.{eq-or-ne}
+use Rattle.draw.specs.Draw.{scan}
 use Rattle.draw.specs.DrawLaws.{scan-nil, scan-take, scan-pass, draw-many}
 use Rattle.draw.specs.Runs.{sumBelow, one, runs, gives, faceRuns}
 
@@ -77,7 +75,7 @@ gives-later limit m f k [] at = refl
 gives-later limit m f k (w ∷ ws) at = ⊎-elim
     (λ h. rw (scan-take limit m w ws (suc at) h, scan-take limit m w ws at h, eqb·suc-suc (suc at) k))
     (λ h. rw (scan-pass limit m w ws (suc at) h, scan-pass limit m w ws at h) (gives-later limit m f k ws (suc at)))
-    (Rattle.cases.specs.CaseLaws.lt-or-ge w limit)
+    (Rattle.base.specs.CaseLaws.lt-or-ge w limit)
 
 -- ---- q * m + r words: q * m are taken, r passed over
 

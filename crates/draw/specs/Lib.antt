@@ -3,3 +3,4 @@ pub mod Draw
 pub mod DrawLaws
 pub mod Runs
 pub mod Fair
+pub mod Examples

@@ -5,7 +5,7 @@ use Prim.Native.Nat.{ℕ, _≤_, _<_}
 use native.Mathlib.Omega.{arith}
 use native.Mathlib.Decide.{ℕ-discrete, decLt}
 use borrow.Author.Tests.{lt-ltb, le-ltb, le-leb, lt-leb, eq-eqb, ne-eqb}
-use Rattle.cases.specs.Cases.{ifEq, ifLt, ifLe}
+use Rattle.base.specs.Cases.{ifEq, ifLt, ifLe}
 
 pub eq-or-ne : (m n : ℕ) → (m ≡ n) ⊎ (m ≢ n)
 eq-or-ne m n = elim (ℕ-discrete m n) [ yes e ↦ inl e | no d ↦ inr d ]
