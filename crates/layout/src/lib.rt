@@ -1,0 +1,1 @@
+// The layout of a sheet in its store.

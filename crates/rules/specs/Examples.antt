@@ -1,0 +1,21 @@
+-- The rules at work on written cases. Assumes nothing.
+use mathlib.Core.Path.{_≡_, refl}
+use Rattle.base.specs.Cases.{ifEq, ifLt}
+use Rattle.sizes.specs.Sizes.{ceilDiv, windowStart}
+use Rattle.rules.specs.declared.Change.the-variants.{Insert, Delete}
+use Rattle.rules.specs.declared.Comparison.the-variants.{Unchanged, Swapped}
+use Rattle.rules.specs.Compare.{countAfter, rankAfter, ranksFrom, window, isMember, isAmong, keepIf, someOf, leaving, entering, compare, firstOfEach}
+
+-- 10 entries with 3 candidates, ranks 3 to 5; 11 entries: ranks 4 to 6
+insert-behind : compare (Insert 8) 10 3 ≡ Swapped 3 6
+unfolding compare leaving entering firstOfEach keepIf someOf isAmong isMember window ranksFrom windowStart ceilDiv countAfter rankAfter ifEq ifLt
+insert-behind = refl
+
+insert-before : compare (Insert 2) 10 3 ≡ Unchanged
+unfolding compare leaving entering firstOfEach keepIf someOf isAmong isMember window ranksFrom windowStart ceilDiv countAfter rankAfter ifEq ifLt
+insert-before = refl
+
+-- the candidate of rank 4 goes out of 10 entries; ranks 4 to 6 of the 9 that are left are 3, 5, 6 before
+delete-candidate : compare (Delete 4) 10 3 ≡ Swapped 4 5
+unfolding compare leaving entering firstOfEach keepIf someOf isAmong isMember window ranksFrom windowStart ceilDiv countAfter rankAfter ifEq ifLt
+delete-candidate = refl

@@ -1,0 +1,5 @@
+-- Trees of balance ranks and the rules of insert and delete: definitions first, then their laws.
+pub mod Tree
+pub mod Compare
+pub mod Rules
+pub mod Examples
