@@ -9,7 +9,7 @@ use Rattle.rules.specs.Tree.{leaf}
 use Rattle.rank_tree.specs.Counts.{writeTree, readTree, shapeCounts}
 use Rattle.layout.specs.Leaf.{slotOf, place, spread, nonzero}
 use Rattle.layout.specs.Layout.{Capacity, leafCounts, layLeaves, padTo, countOrder, laySlots, layCounts, layOut}
-use Rattle.layout.specs.Sheet.{listOf, shapeOf, entriesTest, balancedTest, shapeTest, sheetTest, decode}
+use Rattle.layout.specs.Sheet.{listOf, shapeOf, balancedTest, shapeTest, sheetTest, decode}
 
 tiny : Capacity
 tiny = record { entries = 3; slots = 6; counts = 4 }
@@ -22,10 +22,10 @@ printed = refl
 
 read-back : decode tiny (record { slots = 0xA ∷ 0xB ∷ 0 ∷ 0 ∷ 0 ∷ 0 ∷ []; counts = 3 ∷ 2 ∷ 0 ∷ 0 ∷ [] })
     ≡ some (record { list = 0xA ∷ 0xB ∷ []; shape = record { size = 3; tree = leaf } })
-unfolding tiny decode sheetTest shapeTest balancedTest entriesTest shapeOf listOf nonzero readTree equalLists layOut laySlots layCounts padTo layLeaves leafCounts spread place slotOf leafSlots height digits doublings countOrder shapeCounts writeTree ifLe
+unfolding tiny decode sheetTest shapeTest balancedTest shapeOf listOf nonzero readTree equalLists layOut laySlots layCounts padTo layLeaves leafCounts spread place slotOf leafSlots height digits doublings countOrder shapeCounts writeTree ifLe
 read-back = refl
 
 -- an old entry in a gap
 gap : decode tiny (record { slots = 0xA ∷ 0xB ∷ 0 ∷ 7 ∷ 0 ∷ 0 ∷ []; counts = 3 ∷ 2 ∷ 0 ∷ 0 ∷ [] }) ≡ none
-unfolding tiny decode sheetTest shapeTest balancedTest entriesTest shapeOf listOf nonzero readTree equalLists layOut laySlots layCounts padTo layLeaves leafCounts spread place slotOf leafSlots height digits doublings countOrder shapeCounts writeTree ifLe
+unfolding tiny decode sheetTest shapeTest balancedTest shapeOf listOf nonzero readTree equalLists layOut laySlots layCounts padTo layLeaves leafCounts spread place slotOf leafSlots height digits doublings countOrder shapeCounts writeTree ifLe
 gap = refl

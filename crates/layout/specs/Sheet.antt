@@ -1,9 +1,9 @@
 -- What a sheet is, and its list and shape read back from the store. Definitions only: they assume nothing.
 use mathlib.Core.Path.{_≡_}
 use mathlib.Core.Bool.{Bool, true, false, _&&_}
-use mathlib.Core.List.{List, [], _∷_}
+use mathlib.Core.List.{List}
 use mathlib.Core.Option.{Option, some, none}
-use Prim.Native.Nat.{ℕ, zero, suc, _+_, _-_, _*_, _^_, _≤_, _<_}
+use Prim.Native.Nat.{ℕ, zero, suc, _+_, _-_, _*_, _≤_, _<_}
 use lib.Dec.{leb, ltb}
 use lib.ListN.{length, getD}
 use Rattle.base.specs.Lists.{Every, equalLists}
@@ -13,15 +13,10 @@ use Rattle.rank_tree.specs.Counts.{readTree}
 use Rattle.layout.specs.Leaf.{nonzero}
 use Rattle.layout.specs.Layout.{Capacity, Store, layOut}
 
--- An entry is a 64-bit number other than zero.
-pub record IsEntry (e : ℕ) : Type 0 where
-  pub positive : 0 < e
-  pub wide : e < 2 ^ 64
-
--- The list and the shape can be the contents of a sheet of this capacity.
+-- The list and the shape can be the contents of a sheet of this capacity: an entry is other than zero, and has 64 bits as slots have.
 pub record IsContents (cap : Capacity) (list : List ℕ) (s : Shape) : Type 0 where
   pub room : length list ≤ cap .entries
-  pub entries : Every IsEntry list
+  pub entries : Every (λ e. 0 < e) list
   pub shape : IsShape (length list) s
 
 -- A store is a sheet when some list and shape lay it out.
@@ -43,10 +38,6 @@ shapeOf store =
     record { size = M; tree = readTree (height M) (store .counts) 1 }
 
 -- The tests of the definitions above.
-unfoldable pub entriesTest : List ℕ → Bool
-entriesTest [] = true
-entriesTest (e ∷ list) = ltb 0 e && ltb e (2 ^ 64) && entriesTest list
-
 unfoldable pub balancedTest : ℕ → ℕ → ℕ → ℕ → Tree → Bool
 balancedTest M zero d n leaf = true
 balancedTest M zero d n (node b l r) = false
@@ -63,7 +54,6 @@ shapeTest N s = leb N (s .size) && leb (s .size) (2 * N - 1) && balancedTest (s 
 unfoldable pub sheetTest : Capacity → Store → Bool
 sheetTest cap store =
     leb (length (listOf store)) (cap .entries)
-    && entriesTest (listOf store)
     && shapeTest (length (listOf store)) (shapeOf store)
     && equalLists (store .slots) (layOut cap (listOf store) (shapeOf store) .slots)
     && equalLists (store .counts) (layOut cap (listOf store) (shapeOf store) .counts)

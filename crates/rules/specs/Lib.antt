@@ -2,4 +2,8 @@
 pub mod Tree
 pub mod Compare
 pub mod Rules
+pub mod Swap
+pub mod Moves
+pub mod CompareLaws
+pub mod MoveLaws
 pub mod Examples

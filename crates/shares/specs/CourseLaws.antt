@@ -8,7 +8,7 @@ use borrow.Author.Tests.{eq-eqb, ne-eqb}
 use Rattle.base.specs.Lists.{Every, equalLists}
 use Rattle.base.specs.CaseLaws.{eq-or-ne}
 use Rattle.base.specs.ListLaws.{every-append, every-map}
-use Rattle.shares.specs.Program.{Program, done, draw}
+use Rattle.shares.specs.Program.{Program, done, draw, _>>=_}
 use Rattle.shares.specs.Course.{Follows, Course, concatBelow, before, courses, listed}
 
 every-concat : {B : Type 0} (Q : B → Type 0) (m : ℕ) (h : ℕ → List B) → ((f : ℕ) → f < m → Every Q (h f)) → Every Q (concatBelow m h)
@@ -73,3 +73,12 @@ module _ {A : Type 0} where
   courses-once (draw m p) [] a e = absurd e
   courses-once (draw m p) (f ∷ fs) a e =
       listed-concat m f m fs (λ g. courses (p g)) (e .0) ∙ courses-once (p f) fs a (e .1)
+
+-- A run of faces, and a run of what follows.
+pub follows-bind : {A B : Type 0} (p : Program A) (k : A → Program B) (fs gs : List ℕ) (a : A) (b : B)
+    → Follows p fs a → Follows (k a) gs b → Follows (p >>= k) (fs ++ gs) b
+unfolding Follows _>>=_
+follows-bind (done x) k [] gs a b e h = rw e h
+follows-bind (done x) k (f ∷ fs) gs a b e h = absurd e
+follows-bind (draw m p) k [] gs a b e h = absurd e
+follows-bind (draw m p) k (f ∷ fs) gs a b e h = (e .0, follows-bind (p f) k fs gs a b (e .1) h)

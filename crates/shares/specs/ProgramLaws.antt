@@ -17,6 +17,11 @@ module _ {A B : Type 0} where
   live-bind (done a) k l h = h a
   live-bind (draw m p) k l h = (l .0, λ f i. live-bind (p f) k (l .1 f i) h)
 
+  pub live-bind-ends : (R : A → Type 0) (p : Program A) (k : A → Program B) → Live p → Ends R p → ((a : A) → R a → Live (k a)) → Live (p >>= k)
+  unfolding Live Ends _>>=_
+  live-bind-ends R (done a) k l e h = h a e
+  live-bind-ends R (draw m p) k l e h = (l .0, λ f i. live-bind-ends R (p f) k (l .1 f i) (e f i) h)
+
   pub ends-bind : (R : A → Type 0) (Q : B → Type 0) (p : Program A) (k : A → Program B) → Ends R p → ((a : A) → R a → Ends Q (k a)) → Ends Q (p >>= k)
   unfolding Ends _>>=_
   ends-bind R Q (done a) k e h = h a e

@@ -105,6 +105,16 @@ module _ {A : Type 0} where
   unfolding expect
   draw-swap m n p = record { means = λ g. mean-swap m n (λ i j. expect (p i j) g) }
 
+  -- a draw and the program before it
+  pub draw-commutes : {B : Type 0} (m : ℕ) (p : Program B) (k : ℕ → B → Program A) → (p >>= λ b. draw m (λ f. k f b)) ≈ draw m (λ f. p >>= k f)
+  unfolding expect
+  draw-commutes m p k = record {
+    means = λ g.
+        expect-bind p (λ b. draw m (λ f. k f b)) g
+        ∙ expect-mean p m (λ f b. expect (k f b) g)
+        ∙ mean-cong m (λ f l. sym (expect-bind p (k f) g));
+  }
+
   pub draw-const : (m : ℕ) (p : Program A) → 0 < m → draw m (λ f. p) ≈ p
   unfolding expect
   draw-const m p l = record { means = λ g. mean-const m (expect p g) l }

@@ -1,0 +1,5 @@
+-- Whole histories: definitions first, then the theorems.
+pub mod History
+pub mod Words
+pub mod CallKeeps
+pub mod Independence
