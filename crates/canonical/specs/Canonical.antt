@@ -1,10 +1,9 @@
 -- The canonical distribution of the shapes of N entries: the size parameter is equally likely each of those allowed, and then everything
 -- is rebuilt. It depends on N alone. Definitions only: they assume nothing.
-use Prim.Native.Nat.{ℕ, zero, suc, _+_, _*_, _≤_, _<_}
+use Prim.Native.Nat.{ℕ, zero, suc, _+_, _*_}
 use Rattle.shares.specs.Program.{Program, done, draw, _>>=_}
 use Rattle.sizes.specs.Sizes.{candidates}
 use Rattle.rules.specs.declared.Change.{Change}
-use Rattle.rules.specs.declared.Change.the-variants.{Insert, Delete}
 use Rattle.rules.specs.Tree.{Tree, leaf, node, Shape}
 use Rattle.rules.specs.Rules.{SizeStep, kept, anew, sizeStep, fresh}
 
@@ -23,11 +22,6 @@ sizeAfter M (anew M′) = M′
 
 unfoldable pub newSize : Change → ℕ → ℕ → Program ℕ
 newSize change N M = sizeStep change N M >>= λ step. done (sizeAfter M step)
-
--- The change is one of n entries.
-unfoldable pub InReach : Change → ℕ → Type 0
-InReach (Insert i) n = i ≤ n
-InReach (Delete i) n = i < n
 
 -- The product of the numbers of candidates of the ranges above the leaves, from depth d on.
 unfoldable pub candidatesProduct : ℕ → ℕ → Tree → ℕ

@@ -6,3 +6,5 @@ pub mod VisitLaws
 pub mod WalkKeeps
 pub mod ShapeLaws
 pub mod UpdateKeeps
+pub mod ShapeShare
+pub mod ShapeTest

@@ -12,8 +12,8 @@ use Rattle.rules.specs.declared.Change.{Change}
 use Rattle.rules.specs.declared.Change.the-variants.{Insert, Delete}
 use Rattle.rules.specs.Compare.{countAfter}
 use Rattle.rules.specs.Tree.{Balanced, IsShape}
-use Rattle.rules.specs.Rules.{join, rebuild, grow, insertSize, shrink, deleteSize, sizeStep, fresh}
-use Rattle.canonical.specs.Canonical.{canonicalSize, canonical, sizeAfter, InReach}
+use Rattle.rules.specs.Rules.{InReach, join, rebuild, grow, insertSize, shrink, deleteSize, sizeStep, fresh}
+use Rattle.canonical.specs.Canonical.{canonicalSize, canonical, sizeAfter}
 use Rattle.canonical.specs.VisitLaws.{live-rebuild}
 
 -- ---- the size step

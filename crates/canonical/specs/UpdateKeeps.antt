@@ -10,8 +10,8 @@ use Rattle.sizes.specs.Fit.{fit}
 use Rattle.rules.specs.declared.Change.{Change}
 use Rattle.rules.specs.Compare.{countAfter}
 use Rattle.rules.specs.Tree.{Tree, Shape}
-use Rattle.rules.specs.Rules.{rebuild, walk, SizeStep, kept, anew, sizeStep, fresh, reshape, update}
-use Rattle.canonical.specs.Canonical.{canonicalSize, canonical, sizeAfter, newSize, InReach}
+use Rattle.rules.specs.Rules.{InReach, rebuild, walk, SizeStep, kept, anew, sizeStep, fresh, reshape, update}
+use Rattle.canonical.specs.Canonical.{canonicalSize, canonical, sizeAfter, newSize}
 use Rattle.canonical.specs.SizeKeeps.{size-keeps}
 use Rattle.canonical.specs.VisitLaws.{live-rebuild}
 use Rattle.canonical.specs.WalkKeeps.{walk-keeps}

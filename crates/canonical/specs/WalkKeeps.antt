@@ -22,8 +22,7 @@ use Rattle.rules.specs.Tree.{Tree, leaf, node}
 use Rattle.rules.specs.Compare.{countAfter, compare}
 use Rattle.rules.specs.Moves.{rankNow, GoesOut, Leaves, Inside, faceAfter, Moves}
 use Rattle.rules.specs.MoveLaws.{moves}
-use Rattle.rules.specs.Rules.{rebuild, rebuildHalves, visit, rankOf, atRank, walk}
-use Rattle.canonical.specs.Canonical.{InReach}
+use Rattle.rules.specs.Rules.{InReach, rebuild, rebuildHalves, visit, rankOf, atRank, walk}
 use Rattle.canonical.specs.VisitLaws.{join-cong, join-left, join-right, live-rebuild, join-visit}
 
 -- ---- the arithmetic of a half

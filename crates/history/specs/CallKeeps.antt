@@ -20,8 +20,8 @@ use Rattle.rules.specs.declared.Change.{Change}
 use Rattle.rules.specs.declared.Change.the-variants.{Insert, Delete}
 use Rattle.rules.specs.Compare.{countAfter}
 use Rattle.rules.specs.Tree.{leaf, Shape, IsShape}
-use Rattle.rules.specs.Rules.{rebuild, fresh, update}
-use Rattle.canonical.specs.Canonical.{canonicalSize, canonical, InReach}
+use Rattle.rules.specs.Rules.{InReach, rebuild, fresh, update}
+use Rattle.canonical.specs.Canonical.{canonicalSize, canonical}
 use Rattle.canonical.specs.ShapeLaws.{canonical-ends, canonical-live}
 use Rattle.canonical.specs.UpdateKeeps.{update-keeps}
 use Rattle.layout.specs.Layout.{Capacity, Store, layOut}
@@ -31,9 +31,9 @@ use Rattle.layout.specs.SheetLaws.{decode-complete}
 use Rattle.layout.specs.StoreLaws.{length-slots, length-counts}
 use Rattle.packed_sheet.specs.declared.Cause.{Cause}
 use Rattle.packed_sheet.specs.Call.{Call, clear, insert, delete, read, place, check, listAfter}
-use Rattle.packed_sheet.specs.Causes.{firstOf, lengthsWrong, contentsFor, argumentCause, byArguments, byContents, decision}
+use Rattle.packed_sheet.specs.Causes.{refuse, accept, firstOf, lengthsWrong, contentsFor, argumentCause, byArguments, byContents, decision}
 use Rattle.packed_sheet.specs.Outcome.{changed, effect, callProgramBy, callProgram}
-use Rattle.history.specs.History.{nextList}
+use Rattle.history.specs.History.{nextList, refusalOf}
 
 -- The sheets of a list, canonically distributed.
 unfoldable pub sheetsOf : Capacity → List ℕ → Program Store
@@ -136,6 +136,31 @@ module _ (cap : Capacity) (roomy : Roomy cap) where
     sheet-program (read first last output) = found-program (read first last output) decoded
     sheet-program (place i) = found-program (place i) decoded
     sheet-program check = found-program check decoded
+
+    -- ---- refusals, from the arguments alone
+
+    found-refusal : (call : Call) → contentsFor cap call (layOut cap list s) ≡ some (record { list = list; shape = s })
+        → refusalOf (decision cap call (layOut cap list s)) ≡ argumentCause cap call (length list)
+    unfolding decision byContents byArguments
+    found-refusal call e = rw (lengths-right, decision, e, byContents) (go (argumentCause cap call (length list)))
+      where
+        go : (found : Option Cause)
+            → refusalOf (elim found [ some cause ↦ refuse cause | none ↦ accept (record { list = list; shape = s }) ]) ≡ found
+        go none = refl
+        go (some cause) = refl
+
+    cleared-refusal : refusalOf (decision cap clear (layOut cap list s)) ≡ argumentCause cap clear (length list)
+    unfolding decision byContents byArguments contentsFor argumentCause
+    cleared-refusal = rw (lengths-right, decision)
+
+    pub sheet-refusal : (call : Call) → refusalOf (decision cap call (layOut cap list s)) ≡ argumentCause cap call (length list)
+    unfolding contentsFor
+    sheet-refusal clear = cleared-refusal
+    sheet-refusal (insert i e) = found-refusal (insert i e) decoded
+    sheet-refusal (delete i) = found-refusal (delete i) decoded
+    sheet-refusal (read first last output) = found-refusal (read first last output) decoded
+    sheet-refusal (place i) = found-refusal (place i) decoded
+    sheet-refusal check = found-refusal check decoded
 
   -- ---- a call on the sheets of the list
 

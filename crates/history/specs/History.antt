@@ -3,7 +3,7 @@ use mathlib.Core.Bool.{Bool, _&&_}
 use mathlib.Core.Path.{_≡_}
 use mathlib.Core.Logic.{_≢_}
 use mathlib.Core.List.{List, [], _∷_, _++_}
-use mathlib.Core.Option.{some, none}
+use mathlib.Core.Option.{Option, some, none}
 use Prim.Native.Nat.{ℕ}
 use lib.ListN.{length}
 use Rattle.base.specs.Lists.{equalLists}
@@ -12,10 +12,11 @@ use Rattle.shares.specs.Tape.{facesOn}
 use Rattle.shares.specs.Fraction.{_≐_}
 use Rattle.shares.specs.Course.{share}
 use Rattle.layout.specs.Layout.{Capacity, Store}
+use Rattle.packed_sheet.specs.declared.Cause.{Cause}
 use Rattle.packed_sheet.specs.declared.Cause.the-variants.{TapeEnded}
 use Rattle.packed_sheet.specs.declared.Answer.the-variants.{Refused}
 use Rattle.packed_sheet.specs.Call.{Call, clear, listAfter}
-use Rattle.packed_sheet.specs.Causes.{argumentCause}
+use Rattle.packed_sheet.specs.Causes.{argumentCause, Decision, refuse, accept}
 use Rattle.packed_sheet.specs.Outcome.{outcome, callProgram}
 
 -- ---- histories
@@ -47,6 +48,11 @@ finalList cap (call ∷ calls) list = finalList cap calls (nextList cap call lis
 -- The list at the end of a history: empty at first.
 unfoldable pub listAtEnd : Capacity → List Call → List ℕ
 listAtEnd cap calls = finalList cap calls []
+
+-- The cause of a refusal.
+abbrev pub refusalOf : Decision → Option Cause
+refusalOf (refuse cause) = some cause
+refusalOf (accept before) = none
 
 -- ---- tables of shares
 

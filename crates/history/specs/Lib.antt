@@ -3,3 +3,5 @@ pub mod History
 pub mod Words
 pub mod CallKeeps
 pub mod Independence
+pub mod Shares
+pub mod Clause

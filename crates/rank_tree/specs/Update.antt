@@ -8,10 +8,9 @@ use lib.ListN.{length}
 use Rattle.shares.specs.Tape.{Ran, ran, ended}
 use Rattle.sizes.specs.Sizes.{Allowed, height}
 use Rattle.rules.specs.declared.Change.{Change}
-use Rattle.rules.specs.declared.Change.the-variants.{Insert, Delete}
 use Rattle.rules.specs.Tree.{Tree, leaf, node, Shape, IsShape}
 use Rattle.rules.specs.Compare.{countAfter}
-use Rattle.rules.specs.Rules.{rankOf, atRank}
+use Rattle.rules.specs.Rules.{rankOf, atRank, InReach}
 use Rattle.rank_tree.specs.declared.Part.{Part}
 use Rattle.rank_tree.specs.declared.Updated.{Updated}
 use Rattle.rank_tree.specs.declared.Updated.the-variants.{Done, Ended}
@@ -20,11 +19,6 @@ use Rattle.rank_tree.specs.Counts.{readTree, shapeCounts}
 -- The shape that counts hold.
 unfoldable pub shapeIn : ℕ → List ℕ → Shape
 shapeIn M counts = record { size = M; tree = readTree (height M) counts 1 }
-
--- The rank is one at which an entry can come in or go out of N.
-unfoldable pub InReach : Change → ℕ → Type 0
-InReach (Insert i) N = i ≤ N
-InReach (Delete i) N = i < N
 
 -- The counts hold the shape of size M of N entries, the change is one of these, and there is room for the counts of every new size.
 pub record Ready (change : Change) (N M : ℕ) (counts : List ℕ) : Type 0 where
@@ -42,7 +36,7 @@ Within k d change leaf t′ part = part ≡ record { range = k; depth = d; rank 
 Within k d change (node b l r) leaf part = part ≡ record { range = k; depth = d; rank = rankOf change }
 Within k d change (node b l r) (node b′ l′ r′) part =
     (part ≡ record { range = k; depth = d; rank = rankOf change })
-    ⊎ ((rankOf change ≤ b) × (b′ ≡ countAfter change b) × (r′ ≡ r) × Within (2 * k) (suc d) change l l′ part)
+    ⊎ (InReach change b × (b′ ≡ countAfter change b) × (r′ ≡ r) × Within (2 * k) (suc d) change l l′ part)
     ⊎ ((b < rankOf change) × (b′ ≡ b) × (l′ ≡ l) × Within (2 * k + 1) (suc d) (atRank change (rankOf change - b)) r r′ part)
 
 -- The part is the whole sheet, or the size is kept and the trees differ in the part at most.

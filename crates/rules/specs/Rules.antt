@@ -1,5 +1,5 @@
 -- The rules of document 01, "Insert and delete", as programs that draw. Definitions only: they assume nothing.
-use Prim.Native.Nat.{ℕ, zero, suc, _+_, _-_, _*_}
+use Prim.Native.Nat.{ℕ, zero, suc, _+_, _-_, _*_, _≤_, _<_}
 use Rattle.base.specs.Cases.{ifEq, ifLt, ifLe}
 use Rattle.shares.specs.Program.{Program, done, draw, _>>=_}
 use Rattle.sizes.specs.Sizes.{height, candidates, windowStart}
@@ -45,6 +45,11 @@ rankOf (Delete i) = i
 unfoldable pub atRank : Change → ℕ → Change
 atRank (Insert i) j = Insert j
 atRank (Delete i) j = Delete j
+
+-- The rank is one at which an entry can come in or go out of n.
+unfoldable pub InReach : Change → ℕ → Type 0
+InReach (Insert i) n = i ≤ n
+InReach (Delete i) n = i < n
 
 -- From a range down: into the half that gains or loses the entry, to a leaf. An entry inserted directly before the balance entry joins
 -- the left half. (The entry that goes out is not the balance entry here: then the range was rebuilt.)

@@ -1,0 +1,5 @@
+-- The part of a sheet that a change is confined to, laid out anew: definitions first, then their laws.
+pub mod ChangeList
+pub mod Region
+pub mod Located
+pub mod LocatedLaws
