@@ -5,7 +5,7 @@ use Rattle.shares.specs.Program.{Program, done, draw, _>>=_}
 use Rattle.sizes.specs.Sizes.{candidates}
 use Rattle.rules.specs.declared.Change.{Change}
 use Rattle.rules.specs.Tree.{Tree, leaf, node, Shape}
-use Rattle.rules.specs.Rules.{SizeStep, kept, anew, sizeStep, fresh}
+use Rattle.rules.specs.Rules.{sizeStep, sizeAfter, fresh}
 
 -- 0 for N = 0, otherwise one of N, .., 2 N - 1.
 unfoldable pub canonicalSize : ℕ → Program ℕ
@@ -14,11 +14,6 @@ canonicalSize (suc n) = draw (suc n) (λ face. done (suc n + face))
 
 unfoldable pub canonical : ℕ → Program Shape
 canonical N = canonicalSize N >>= λ M. fresh M N
-
--- The size parameter after a size step.
-unfoldable pub sizeAfter : ℕ → SizeStep → ℕ
-sizeAfter M kept = M
-sizeAfter M (anew M′) = M′
 
 unfoldable pub newSize : Change → ℕ → ℕ → Program ℕ
 newSize change N M = sizeStep change N M >>= λ step. done (sizeAfter M step)

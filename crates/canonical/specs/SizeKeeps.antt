@@ -16,8 +16,8 @@ use Rattle.shares.specs.Reservoir.{expect-face-zero}
 use Rattle.rules.specs.declared.Change.{Change}
 use Rattle.rules.specs.declared.Change.the-variants.{Insert, Delete}
 use Rattle.rules.specs.Compare.{countAfter}
-use Rattle.rules.specs.Rules.{InReach, SizeStep, kept, anew, grow, insertSize, shrink, deleteSize, sizeStep}
-use Rattle.canonical.specs.Canonical.{canonicalSize, sizeAfter, newSize}
+use Rattle.rules.specs.Rules.{sizeAfter, InReach, SizeStep, kept, anew, grow, insertSize, shrink, deleteSize, sizeStep}
+use Rattle.canonical.specs.Canonical.{canonicalSize, newSize}
 use Rattle.canonical.specs.SizeSums.{grow-sum, shrink-sum}
 
 -- what g gives the size parameter after a size step from M

@@ -10,12 +10,13 @@ use Rattle.sizes.specs.Fit.{fit}
 use Rattle.rules.specs.declared.Change.{Change}
 use Rattle.rules.specs.Compare.{countAfter}
 use Rattle.rules.specs.Tree.{Tree, Shape}
-use Rattle.rules.specs.Rules.{InReach, rebuild, walk, SizeStep, kept, anew, sizeStep, fresh, reshape, update}
-use Rattle.canonical.specs.Canonical.{canonicalSize, canonical, sizeAfter, newSize}
+use Rattle.rules.specs.ShapeLaws.{step-ends}
+use Rattle.rules.specs.Rules.{sizeAfter, InReach, rebuild, walk, SizeStep, kept, anew, sizeStep, fresh, reshape, update}
+use Rattle.canonical.specs.Canonical.{canonicalSize, canonical, newSize}
 use Rattle.canonical.specs.SizeKeeps.{size-keeps}
 use Rattle.canonical.specs.VisitLaws.{live-rebuild}
 use Rattle.canonical.specs.WalkKeeps.{walk-keeps}
-use Rattle.canonical.specs.ShapeLaws.{step-ends, canonical-size-ends}
+use Rattle.canonical.specs.ShapeLaws.{canonical-size-ends}
 
 module _ (change : Change) (N : ℕ) (reach : InReach change N) where
   -- the shape of size M with this tree

@@ -2,4 +2,7 @@
 pub mod ChangeList
 pub mod Region
 pub mod Located
+pub mod Plan
+pub mod ChangeListLaws
 pub mod LocatedLaws
+pub mod PlanLaws

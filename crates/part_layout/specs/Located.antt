@@ -2,8 +2,9 @@
 -- Definitions only: they assume nothing.
 use mathlib.Core.Path.{_≡_}
 use mathlib.Core.List.{List, _++_}
-use Prim.Native.Nat.{ℕ, _+_, _*_, _^_, _<_}
+use Prim.Native.Nat.{ℕ, _+_, _*_, _^_, _≤_, _<_}
 use lib.ListN.{length}
+use Rattle.base.specs.Lists.{Every}
 use Rattle.sizes.specs.Sizes.{Fits}
 use Rattle.rules.specs.declared.Change.{Change}
 use Rattle.rules.specs.Tree.{Tree, Balanced}
@@ -30,6 +31,8 @@ pub record Located (M s levels k d : ℕ) (change : Change) (e n : ℕ) (t t′ 
   pub number-below : number < 2 ^ above
   pub depth-is : part .depth ≡ d + above
   pub entries : List ℕ
+  pub few : length entries ≤ length list
+  pub positive : Every (λ x. 0 < x) list → Every (λ x. 0 < x) entries
   pub tree : Tree
   pub tree′ : Tree
   pub old-range : IsRange M inner (part .depth) (length entries) tree

@@ -6,8 +6,9 @@ use Prim.Native.Nat.{ℕ, zero, suc, _+_, _-_, _*_, _^_, _≤_, _<_}
 use native.Mathlib.Omega.{arith}
 use lib.Pow.{pow-add}
 use native.Mathlib.Nat.{pow-succ', sub-zero, suc-sub-suc}
-use lib.ListN.{length, take, drop, length-drop, length-append}
+use lib.ListN.{length, take, drop, length-take, length-drop, length-append}
 use lib.Seq.{take-nil, drop-nil, drop-drop, length-take-le}
+use Rattle.base.specs.ListLaws.{every-take, every-drop}
 use Rattle.sizes.specs.Sizes.{candidates}
 use Rattle.sizes.specs.SizeLaws.{candidate-below}
 use Rattle.sizes.specs.Fit.{fits-count, fits-halves}
@@ -16,6 +17,7 @@ use Rattle.rules.specs.declared.Change.the-variants.{Insert, Delete}
 use Rattle.rules.specs.Tree.{Tree, leaf, node, Balanced}
 use Rattle.rules.specs.Compare.{countAfter}
 use Rattle.rules.specs.Rules.{rankOf, atRank, InReach}
+use Rattle.rules.specs.ChangeLaws.{count-rank, rank-rank, rank-itself, right-reach, right-count, left-count}
 use Rattle.rank_tree.specs.declared.Part.{Part}
 use Rattle.rank_tree.specs.Update.{Within}
 use Rattle.layout.specs.Layout.{leafCounts, layLeaves}
@@ -93,38 +95,6 @@ right-drop (Delete i) e b xs l h =
     let d : b + suc (i - b) ≡ suc i = omega (arith, l) in
     part-drop b i xs (drop (suc i) xs) (omega (arith, l)) (omega (arith, h)) ∙ rw (drop-drop (suc (i - b)) b xs, d)
 
--- ---- the arithmetic of a half
-
-right-reach : (change : Change) (n b : ℕ) → b < rankOf change → InReach change n → InReach (atRank change (rankOf change - b)) (n - b)
-unfolding InReach rankOf atRank
-right-reach (Insert i) n b l h = omega (arith, l, h)
-right-reach (Delete i) n b l h = omega (arith, l, h)
-
-right-count : (change : Change) (n b : ℕ) → b < rankOf change → InReach change n → countAfter change n - b ≡ countAfter change (n - b)
-unfolding InReach rankOf countAfter
-right-count (Insert i) n b l h = omega (arith, l, h)
-right-count (Delete i) n b l h = omega (arith, l, h)
-
-left-count : (change : Change) (n b : ℕ) → b ≤ n → InReach change b → countAfter change n - countAfter change b ≡ n - b
-unfolding InReach countAfter
-left-count (Insert i) n b l h = omega arith
-left-count (Delete i) n b l h = omega (arith, h)
-
-count-rank : (change : Change) (j n : ℕ) → countAfter (atRank change j) n ≡ countAfter change n
-unfolding countAfter atRank
-count-rank (Insert i) j n = refl
-count-rank (Delete i) j n = refl
-
-rank-rank : (change : Change) (i j : ℕ) → atRank (atRank change i) j ≡ atRank change j
-unfolding atRank
-rank-rank (Insert r) i j = refl
-rank-rank (Delete r) i j = refl
-
-rank-itself : (change : Change) → atRank change (rankOf change) ≡ change
-unfolding atRank rankOf
-rank-itself (Insert r) = refl
-rank-itself (Delete r) = refl
-
 -- ---- a range and its halves
 
 module _ (M levels d n b : ℕ) (l r : Tree) (w : IsRange M (suc levels) d n (node b l r)) where
@@ -144,7 +114,7 @@ module _ (M levels d n b : ℕ) (l r : Tree) (w : IsRange M (suc levels) d n (no
       → layLeaves s (leafCounts n (node b l r)) xs ≡ layLeaves s (leafCounts b l) (take b xs) ++ layLeaves s (leafCounts (n - b) r) (drop b xs)
   range-layLeaves s xs = layLeaves-node s n b l r xs (leafCounts-total M levels (suc d) b l (range-left .fits) (range-left .balanced))
 
-range-length : (M levels d n : ℕ) (t : Tree) → IsRange M levels d n t → (s : ℕ) (xs : List ℕ) → length (layLeaves s (leafCounts n t) xs) ≡ s * 2 ^ levels
+pub range-length : (M levels d n : ℕ) (t : Tree) → IsRange M levels d n t → (s : ℕ) (xs : List ℕ) → length (layLeaves s (leafCounts n t) xs) ≡ s * 2 ^ levels
 range-length M levels d n t w s xs =
     length-layLeaves s (leafCounts n t) xs
     ∙ rw (length-leafCounts levels n t (balanced-levels M levels d n t (w .balanced)))
@@ -170,6 +140,8 @@ located-here M s levels k d change e n t t′ list part len reach old new at =
       number-below = omega arith;
       depth-is = omega arith;
       entries = list;
+      few = omega arith;
+      positive = λ h. h;
       tree = t;
       tree′ = t′;
       old-range = rw len old;
@@ -200,6 +172,8 @@ module _ (M s levels k d : ℕ) (change : Change) (e n b b′ : ℕ) (l l′ r r
     number-below = rw (pow-succ' 2 (w .above)) (omega (arith, w .number-below));
     depth-is = omega (arith, w .depth-is);
     entries = w .entries;
+    few = omega (arith, w .few, length-take b list);
+    positive = λ h. w .positive (every-take (λ x. 0 < x) b list h);
     tree = w .tree;
     tree′ = w .tree′;
     old-range = w .old-range;
@@ -235,6 +209,8 @@ module _ (M s levels k d : ℕ) (change : Change) (e n b b′ : ℕ) (l l′ r r
     number-below = rw (pow-succ' 2 (w .above)) (omega (arith, w .number-below));
     depth-is = omega (arith, w .depth-is);
     entries = w .entries;
+    few = omega (arith, w .few, length-drop b list);
+    positive = λ h. w .positive (every-drop (λ x. 0 < x) b list h);
     tree = w .tree;
     tree′ = w .tree′;
     old-range = w .old-range;

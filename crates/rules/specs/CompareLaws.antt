@@ -114,6 +114,7 @@ pub record Exchange (change : Change) (a a′ c out into : ℕ) : Type 0 where
   pub leaves : (s : ℕ) → a′ ≤ s → s < a′ + c → rankAfter change out ≢ some s
   pub enters : (r : ℕ) → a ≤ r → r < a + c → rankAfter change r ≢ some into
 
+-- What the candidates before and after have in common, where the comparison is this one: all, in order, or all but the two exchanged.
 unfoldable pub Matched : Change → ℕ → ℕ → ℕ → Comparison → Type 0
 Matched change a a′ c Unchanged = (f : ℕ) → f < c → rankAfter change (a + f) ≡ some (a′ + f)
 Matched change a a′ c (Swapped out into) = Exchange change a a′ c out into
@@ -131,6 +132,7 @@ matched-undo i a a′ c (Swapped out into) m = record {
   enters = λ s l k e. m .leaves s l k (insert-undoes i out s e);
 }
 
+-- An exchange by an insert, with the ranks after it written out.
 insert-exchange : (i a a′ c out into : ℕ) → a ≤ out → out < a + c → a′ ≤ into → into < a′ + c
     → ((f : ℕ) → suc f < c → skip i (a + skip (out - a) f) ≡ a′ + skip (into - a′) f)
     → ((s : ℕ) → a′ ≤ s → s < a′ + c → skip i out ≢ s)
@@ -146,10 +148,12 @@ insert-exchange i a a′ c out into p q u v o l e = record {
   enters = λ r h k d. e r h k (cc (insert-after i r));
 }
 
+-- two ways to count past a number that is left out
 skip-shift : (i r b j f : ℕ) → r ≡ b + f → (r < i → f < j) → (i ≤ r → j ≤ f) → skip i r ≡ b + skip j f
 skip-shift i r b j f e below from =
     by-skip _ i r (λ x y. omega (arith, skip-lt j f (below x))) (λ x y. omega (arith, skip-ge j f (from x)))
 
+-- The closed form is right for the windows from a and from a′ on.
 insert-matched : (i a a′ c : ℕ) → 0 < c → (a′ ≡ a) ⊎ (a′ ≡ suc a) → Matched (Insert i) a a′ c (insertSwap i a a′ c)
 unfolding insertSwap Matched
 insert-matched i a a′ c pos near =
@@ -170,6 +174,7 @@ insert-matched i a a′ c pos near =
     (λ r h k. by-skip _ i r (λ x y. omega arith) (λ x y. omega arith)))
     (λ l f h. insert-after i (a + f) ∙ ap some (omega (arith, skip-ge i (a + f) (omega arith)))))
 
+-- The same of the windows of a range, for both changes.
 pub windows-matched : (change : Change) (n c : ℕ) → 0 < c → c ≤ n → c ≤ countAfter change n
     → Matched change (windowStart n c) (windowStart (countAfter change n) c) c (swapOf change n c)
 unfolding swapOf countAfter
@@ -205,7 +210,10 @@ unfolding Found
 found-one out into Unchanged h = inl h
 found-one out into (Swapped r e) h = inr (r, e, h .0, h .1, found-first out into (Swapped r e) h)
 
--- A rank of the window other than x, by its place among the others.
+-- What holds of every rank of a window, by its place; and of every rank but x, by its place among the others.
+by-place : (P : ℕ → Type 0) (a c r : ℕ) → a ≤ r → r < a + c → ((f : ℕ) → f < c → P (a + f)) → P r
+by-place P a c r l k h = let e : a + (r - a) ≡ r = omega arith in rw e at (h (r - a) (omega arith))
+
 by-other : (P : ℕ → Type 0) (a c x r : ℕ) → a ≤ x → x < a + c → a ≤ r → r < a + c → r ≢ x
     → ((f : ℕ) → suc f < c → P (a + skip (x - a) f)) → P r
 by-other P a c x r p q l m ne h =
@@ -234,25 +242,20 @@ module _ (change : Change) (a a′ c : ℕ) where
     s-below = omega (arith, skip-small (into - a′) f (c - 1) (omega arith));
   }
 
-  pub candidate-stays : (found : Comparison) → Matched change a a′ c found
-      → (r : ℕ) → a ≤ r → r < a + c → ¬ Leaves found r → (s : ℕ) × Kept change a a′ c r s
-  unfolding Matched Leaves
-  candidate-stays Unchanged m r l k ne =
-      let e : a + (r - a) ≡ r = omega arith in
-      (a′ + (r - a), rw e at (unchanged-kept m (r - a) (omega arith)))
-  candidate-stays (Swapped out into) m r l k ne =
-      by-other (λ r. (s : ℕ) × Kept change a a′ c r s) a c out r (m .out-from) (m .out-below) l k ne
-      (λ f h. (_, exchange-kept out into m f h))
-
-  pub candidate-was : (found : Comparison) → Matched change a a′ c found
-      → (s : ℕ) → a′ ≤ s → s < a′ + c → ¬ Enters found s → (r : ℕ) × Kept change a a′ c r s
-  unfolding Matched Enters
-  candidate-was Unchanged m s l k ne =
-      let e : a′ + (s - a′) ≡ s = omega arith in
-      (a + (s - a′), rw e at (unchanged-kept m (s - a′) (omega arith)))
-  candidate-was (Swapped out into) m s l k ne =
-      by-other (λ s. (r : ℕ) × Kept change a a′ c r s) a′ c into s (m .into-from) (m .into-below) l k ne
-      (λ f h. (_, exchange-kept out into m f h))
+  -- What holds of every candidate kept, by its rank before and by its rank after, holds of all that do not leave and of all that do
+  -- not enter.
+  pub by-kept : (P Q : ℕ → Type 0) → ((r s : ℕ) → Kept change a a′ c r s → P r × Q s)
+      → (found : Comparison) → Matched change a a′ c found
+      → ((r : ℕ) → a ≤ r → r < a + c → ¬ Leaves found r → P r) × ((s : ℕ) → a′ ≤ s → s < a′ + c → ¬ Enters found s → Q s)
+  unfolding Matched Leaves Enters
+  by-kept P Q h Unchanged m = (
+    λ r l k ne. by-place P a c r l k (λ f p. h _ _ (unchanged-kept m f p) .0),
+    λ s l k ne. by-place Q a′ c s l k (λ f p. h _ _ (unchanged-kept m f p) .1),
+  )
+  by-kept P Q h (Swapped out into) m = (
+    λ r l k ne. by-other P a c out r (m .out-from) (m .out-below) l k ne (λ f p. h _ _ (exchange-kept out into m f p) .0),
+    λ s l k ne. by-other Q a′ c into s (m .into-from) (m .into-below) l k ne (λ f p. h _ _ (exchange-kept out into m f p) .1),
+  )
 
   leavesTest : ℕ → Bool
   leavesTest r = not (isAmong (rankAfter change r) (ranksFrom a′ c))
@@ -260,16 +263,14 @@ module _ (change : Change) (a a′ c : ℕ) where
   entersTest : ℕ → Bool
   entersTest e = not (someOf (λ r. isAmong (rankAfter change r) (e ∷ [])) (ranksFrom a c))
 
-  leaves-no : (r : ℕ) → (s : ℕ) × Kept change a a′ c r s → leavesTest r ≡ false
-  unfolding leavesTest
-  leaves-no r k = ap not (among-yes (rankAfter change r) a′ c (k .0) (k .1 .after) (k .1 .s-from) (k .1 .s-below))
-
-  enters-no : (s : ℕ) → (r : ℕ) × Kept change a a′ c r s → entersTest s ≡ false
-  unfolding entersTest ranksFrom
-  enters-no s k =
-      ap not
-      (some-yes (λ r. isAmong (rankAfter change r) (s ∷ [])) a c (k .0) (k .1 .r-from) (k .1 .r-below)
-      (among-yes (rankAfter change (k .0)) s 1 s (k .1 .after) (omega arith) (omega arith)))
+  kept-tests : (r s : ℕ) → Kept change a a′ c r s → (leavesTest r ≡ false) × (entersTest s ≡ false)
+  unfolding leavesTest entersTest ranksFrom
+  kept-tests r s k = (
+    ap not (among-yes (rankAfter change r) a′ c s (k .after) (k .s-from) (k .s-below)),
+    ap not
+        (some-yes (λ r. isAmong (rankAfter change r) (s ∷ [])) a c r (k .r-from) (k .r-below)
+        (among-yes (rankAfter change r) s 1 s (k .after) (omega arith) (omega arith))),
+  )
 
   leaves-yes : (r : ℕ) → ((s : ℕ) → a′ ≤ s → s < a′ + c → rankAfter change r ≢ some s) → leavesTest r ≡ true
   unfolding leavesTest
@@ -286,16 +287,14 @@ module _ (change : Change) (a a′ c : ℕ) where
   matched-found : (found : Comparison) → Matched change a a′ c found
       → Found (keepIf leavesTest (ranksFrom a c)) (keepIf entersTest (ranksFrom a′ c)) found
   unfolding Found Leaves Enters Matched
-  matched-found Unchanged m = (
-    keep-none leavesTest a c (λ r l k. leaves-no r (candidate-stays Unchanged m r l k (λ z. z))),
-    keep-none entersTest a′ c (λ s l k. enters-no s (candidate-was Unchanged m s l k (λ z. z))),
-  )
-  matched-found (Swapped out into) m = (
-    keep-one leavesTest a c out (m .out-from) (m .out-below) (leaves-yes out (m .leaves))
-        (λ r l k ne. leaves-no r (candidate-stays (Swapped out into) m r l k ne)),
-    keep-one entersTest a′ c into (m .into-from) (m .into-below) (enters-yes into (m .enters))
-        (λ s l k ne. enters-no s (candidate-was (Swapped out into) m s l k ne)),
-  )
+  matched-found Unchanged m =
+      let others = by-kept _ _ kept-tests Unchanged m in
+      (keep-none leavesTest a c (λ r l k. others .0 r l k (λ z. z)), keep-none entersTest a′ c (λ s l k. others .1 s l k (λ z. z)))
+  matched-found (Swapped out into) m =
+      let others = by-kept _ _ kept-tests (Swapped out into) m in (
+        keep-one leavesTest a c out (m .out-from) (m .out-below) (leaves-yes out (m .leaves)) (others .0),
+        keep-one entersTest a′ c into (m .into-from) (m .into-below) (enters-yes into (m .enters)) (others .1),
+      )
 
 module _ (change : Change) (n c : ℕ) (pos : 0 < c) (before : c ≤ n) (after : c ≤ countAfter change n) where
   windows-found : Found (leaving change n c) (entering change n c) (swapOf change n c)

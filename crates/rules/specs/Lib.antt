@@ -2,8 +2,11 @@
 pub mod Tree
 pub mod Compare
 pub mod Rules
+pub mod Step
 pub mod Swap
 pub mod Moves
+pub mod ChangeLaws
 pub mod CompareLaws
 pub mod MoveLaws
+pub mod ShapeLaws
 pub mod Examples

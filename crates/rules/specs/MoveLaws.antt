@@ -5,19 +5,24 @@ use Prim.Native.Nat.{ℕ, zero, suc, _+_, _-_, _≤_, _<_}
 use native.Mathlib.Omega.{arith}
 use Rattle.base.specs.Cases.{ifEq}
 use Rattle.base.specs.CaseLaws.{ifEq-yes, ifEq-no, ifLt-yes, ifLt-no, by-eq, by-lt}
-use Rattle.shares.specs.Rational.{Rational, _⊕_}
-use Rattle.shares.specs.Same.{sum}
-use Rattle.shares.specs.Sum.{skip, sum-cong, sum-skip}
-use Rattle.shares.specs.Reservoir.{skip-ne}
+use Rattle.shares.specs.Rational.{Rational, _⊕_, _⊗_, inv}
+use Rattle.shares.specs.Program.{Program, draw}
+use Rattle.shares.specs.Same.{sum, mean, expect, _≈_}
+use Rattle.shares.specs.Sum.{skip, sum-cong, sum-skip, mean-cong}
+use Rattle.shares.specs.SameLaws.{≈-trans, ≈-path, draw-cong}
+use Rattle.shares.specs.Reservoir.{skip-ne, reservoir}
 use Rattle.sizes.specs.Sizes.{windowStart, IsCandidate}
+use Rattle.sizes.specs.SizeLaws.{candidate-face}
 use Rattle.rules.specs.declared.Change.{Change}
 use Rattle.rules.specs.declared.Change.the-variants.{Insert, Delete}
 use Rattle.rules.specs.declared.Comparison.{Comparison}
 use Rattle.rules.specs.declared.Comparison.the-variants.{Unchanged, Swapped}
+use Rattle.rules.specs.Tree.{Tree}
+use Rattle.rules.specs.Rules.{visit}
 use Rattle.rules.specs.Compare.{countAfter, rankAfter, compare}
 use Rattle.rules.specs.Swap.{swapOf}
 use Rattle.rules.specs.Moves.{rankNow, GoesOut, Leaves, Inside, faceAfter, Moves}
-use Rattle.rules.specs.CompareLaws.{Exchange, Matched, candidate-stays, windows-matched, compare-closed}
+use Rattle.rules.specs.CompareLaws.{Exchange, Matched, Kept, by-kept, windows-matched, compare-closed}
 
 -- ---- the rank after a change, as a number
 
@@ -77,17 +82,52 @@ module _ (change : Change) (n c : ℕ) (pos : 0 < c) (before : c ≤ n) (after :
       rw (compare-closed change n c pos before after)
       record {
         inside = matched-inside change n c (swapOf change n c) matched;
-        within = λ r w ne. kept r w ne .0;
-        stays = λ r w ne. kept r w ne .1;
+        within = λ r w ne. stayed r w ne .0;
+        stays = λ r w ne. stayed r w ne .1;
         matches = λ v. matched-sum v change _ _ c (swapOf change n c) matched;
       }
     where
       matched : Matched change (windowStart n c) (windowStart (countAfter change n) c) c (swapOf change n c)
       matched = windows-matched change n c pos before after
 
-      kept : (r : ℕ) → IsCandidate n c r → ¬ Leaves (swapOf change n c) r
+      candidate : (r s : ℕ) → Kept change (windowStart n c) (windowStart (countAfter change n) c) c r s
+          → (IsCandidate (countAfter change n) c (rankNow change r) × ¬ GoesOut change r) × Unit {0}
+      candidate r s k =
+          let now = after-now change r s (k .after) in
+          ((rw (now .0) record { from = k .s-from; below = k .s-below }, now .1), tt)
+
+      stayed : (r : ℕ) → IsCandidate n c r → ¬ Leaves (swapOf change n c) r
           → IsCandidate (countAfter change n) c (rankNow change r) × ¬ GoesOut change r
-      kept r w ne =
-          let k = candidate-stays change _ _ c (swapOf change n c) matched r (w .from) (w .below) ne in
-          let now = after-now change r (k .0) (k .1 .after) in
-          (rw (now .0) record { from = k .1 .s-from; below = k .1 .s-below }, now .1)
+      stayed r w = by-kept change _ _ c _ _ candidate (swapOf change n c) matched .0 r (w .from) (w .below)
+
+-- ---- the reservoir step at a range
+
+same-face : {A : Type 0} (a f out : ℕ) (x y : A) → a ≤ out → ifEq (a + f) out x y ≡ ifEq f (out - a) x y
+same-face a f out x y l =
+    by-eq (λ z. ifEq (a + f) out x y ≡ z) f (out - a) x y
+    (λ e. ifEq-yes (a + f) out x y (omega arith))
+    (λ ne. ifEq-no (a + f) out x y (λ e. ne (omega arith)))
+
+-- A balance entry that is equally likely each of the c candidates is, after the visit, equally likely each of the candidates after the
+-- change. `given r` goes on with the balance entry of rank r after the change; `down r` is the walk below the one of rank r before it.
+pub visit-keeps : (change : Change) (n c : ℕ) (found : Comparison) (given down : ℕ → Program Tree) → Moves change n c found
+    → ((r : ℕ) → IsCandidate n c r → ¬ Leaves found r → down r ≈ given (rankNow change r))
+    → draw c
+    (λ f.
+    visit found c (windowStart n c + f) (draw c (λ k. given (windowStart (countAfter change n) c + k))) given (down (windowStart n c + f)))
+    ≈ draw c (λ f. given (windowStart (countAfter change n) c + f))
+unfolding visit expect mean Leaves faceAfter Inside
+visit-keeps change n c Unchanged given down m d =
+    record {
+      means = λ g.
+          mean-cong c (λ f l. d (windowStart n c + f) (candidate-face n c f l) (λ z. z) .means g)
+          ∙ ap (λ (u : Rational). inv c ⊗ u) (m .matches (λ r. expect (given r) g));
+    }
+visit-keeps change n c (Swapped out into) given down m d =
+    ≈-trans
+    (draw-cong c (λ f l. ≈-path (same-face (windowStart n c) f out _ _ (m .inside .0 .from))))
+    (reservoir c (out - windowStart n c) into (windowStart (countAfter change n) c) (λ f. rankNow change (windowStart n c + f)) given
+    (λ f. down (windowStart n c + f))
+    (omega (arith, m .inside .0 .from, m .inside .0 .below))
+    (m .matches)
+    (λ f l ne. d (windowStart n c + f) (candidate-face n c f l) (λ e. ne (omega arith))))

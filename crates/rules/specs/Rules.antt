@@ -88,6 +88,11 @@ unfoldable pub sizeStep : Change → ℕ → ℕ → Program SizeStep
 sizeStep (Insert i) N M = insertSize N M
 sizeStep (Delete i) N M = deleteSize N M
 
+-- The size parameter after a size step.
+unfoldable pub sizeAfter : ℕ → SizeStep → ℕ
+sizeAfter M kept = M
+sizeAfter M (anew M′) = M′
+
 -- ---- insert and delete
 
 -- Everything rebuilt at the size M, for n entries.

@@ -1,13 +1,13 @@
 -- Laws of the run on a tape, and the law that joins it to the courses. Assumes nothing.
-use mathlib.Core.Path.{_≡_, refl}
-use mathlib.Core.List.{List}
+use mathlib.Core.Path.{_≡_, refl, subst}
+use mathlib.Core.List.{List, [], _∷_}
 use Prim.Native.Nat.{ℕ}
 use native.Mathlib.Omega.{arith}
 use Rattle.draw.specs.declared.Drawn.{Drawn}
 use Rattle.draw.specs.declared.Drawn.the-variants.{Face, Ended}
 use Rattle.draw.specs.Draw.{drawAt}
 use Rattle.draw.specs.DrawLaws.{Sound, draw-sound}
-use Rattle.shares.specs.Program.{Program, done, draw, _>>=_}
+use Rattle.shares.specs.Program.{Program, done, draw, _>>=_, Ends}
 use Rattle.shares.specs.Tape.{ran, ended, afterDraw, afterRun, runAt, facesAfter, facesOn}
 use Rattle.shares.specs.Course.{Follows}
 
@@ -35,6 +35,14 @@ run-bind (draw m p) k tape at = go (drawAt m tape at) (λ f n. run-bind (p f) k 
     go (Face f n) ih = ih f n
     go Ended ih = refl
 
+-- a run of faces ends with a value that the program can end with
+follows-ends : {A : Type 0} (R : A → Type 0) (p : Program A) (faces : List ℕ) (a : A) → Ends R p → Follows p faces a → R a
+unfolding Ends Follows
+follows-ends R (done b) [] a e h = subst R h e
+follows-ends R (done b) (f ∷ fs) a e h = absurd h
+follows-ends R (draw m p) [] a e h = absurd h
+follows-ends R (draw m p) (f ∷ fs) a e h = follows-ends R (p f) fs a (e f (h .0)) (h .1)
+
 -- A finished run on a tape ends where the course ends whose faces its words decide; each of those faces is below its number.
 pub run-follows : {A : Type 0} (p : Program A) (tape : List ℕ) (at : ℕ) (a : A) (next : ℕ)
     → runAt p tape at ≡ ran a next → Follows p (facesOn p tape at) a
@@ -49,3 +57,8 @@ run-follows {A} (draw m p) tape at a next e =
         → Follows (draw m p) (facesAfter d (λ f n. facesOn (p f) tape n)) a
     go (Face f n) sound ih e = (sound f n refl .below, ih f n e)
     go Ended sound ih e = let z : _≡_ {A = ℕ} 0 1 = cc in absurd (omega arith)
+
+-- A finished run ends with a value that the program can end with.
+pub run-ends : {A : Type 0} (R : A → Type 0) (p : Program A) (tape : List ℕ) (at : ℕ) (a : A) (next : ℕ)
+    → Ends R p → runAt p tape at ≡ ran a next → R a
+run-ends R p tape at a next e h = follows-ends R p (facesOn p tape at) a e (run-follows p tape at a next h)
