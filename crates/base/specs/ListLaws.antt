@@ -2,11 +2,12 @@
 use mathlib.Core.Path.{_≡_, refl, ap₂}
 use mathlib.Core.Bool.{Bool, true, false, _&&_}
 use mathlib.Core.List.{List, [], _∷_, _++_, map}
-use Prim.Native.Nat.{ℕ, zero, suc}
+use Prim.Native.Nat.{ℕ, zero, suc, _<_}
 use native.Mathlib.Omega.{arith}
+use native.Mathlib.Nat.{le-of-suc-le-suc, not-suc-le-zero}
 use borrow.Author.Tests.{eq-eqb, eqb-true}
 use lib.Dec.{eqb}
-use lib.ListN.{take, drop, replicate}
+use lib.ListN.{length, getD, set, take, drop, replicate}
 use Rattle.base.specs.Lists.{Every, equalLists}
 
 -- ---- every member
@@ -33,6 +34,18 @@ module _ {A : Type 0} (P : A → Type 0) where
   unfolding Every
   every-replicate zero x h = tt
   every-replicate (suc n) x h = (h, every-replicate n x h)
+
+  pub every-getD : (xs : List A) (i : ℕ) (d : A) → Every P xs → i < length xs → P (getD xs i d)
+  unfolding Every
+  every-getD [] i d p h = absurd (not-suc-le-zero h)
+  every-getD (x ∷ xs) zero d p h = p .0
+  every-getD (x ∷ xs) (suc i) d p h = every-getD xs i d (p .1) (le-of-suc-le-suc h)
+
+  pub every-set : (xs : List A) (i : ℕ) (x : A) → Every P xs → P x → Every P (set xs i x)
+  unfolding Every
+  every-set [] i x p h = tt
+  every-set (y ∷ ys) zero x p h = (h, p .1)
+  every-set (y ∷ ys) (suc i) x p h = (p .0, every-set ys i x (p .1) h)
 
 pub every-map : {A B : Type 0} (P : A → Type 0) (Q : B → Type 0) (t : A → B) → ((x : A) → P x → Q (t x)) → (xs : List A) → Every P xs → Every Q (map t xs)
 unfolding Every

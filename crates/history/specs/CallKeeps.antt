@@ -27,8 +27,7 @@ use Rattle.canonical.specs.UpdateKeeps.{update-keeps}
 use Rattle.layout.specs.Layout.{Capacity, Store, layOut}
 use Rattle.layout.specs.Sheet.{IsContents, decode}
 use Rattle.layout.specs.Room.{Roomy}
-use Rattle.layout.specs.SheetLaws.{decode-complete}
-use Rattle.layout.specs.StoreLaws.{length-slots, length-counts}
+use Rattle.layout.specs.SheetLaws.{decode-complete, length-slots, length-counts}
 use Rattle.packed_sheet.specs.declared.Cause.{Cause}
 use Rattle.packed_sheet.specs.Call.{Call, clear, insert, delete, read, place, check, listAfter}
 use Rattle.packed_sheet.specs.Causes.{refuse, accept, firstOf, lengthsWrong, contentsFor, argumentCause, byArguments, byContents, decision}
@@ -105,8 +104,8 @@ module _ (cap : Capacity) (roomy : Roomy cap) where
     unfolding lengthsWrong
     lengths-right =
         rw (
-          eq-eqb _ _ (length-slots cap roomy list s contents),
-          eq-eqb _ _ (length-counts cap roomy list s contents),
+          eq-eqb _ _ (length-slots cap list s contents roomy),
+          eq-eqb _ _ (length-counts cap list s contents),
         )
 
     decoded : decode cap (layOut cap list s) ≡ some (record { list = list; shape = s })

@@ -29,11 +29,17 @@ below-only k j w = omega (arith, w .from, w .before)
 pub below-least : (k d j : ℕ) → Below k d j → k ≤ j
 below-least k d j w = omega (arith, w .from, mul-le-mul-left k (pow-pos d))
 
+below-half : (k h d j : ℕ) → 2 * k ≤ h → h ≤ 2 * k + 1 → Below h d j → Below k (suc d) j
+below-half k h d j l r w = record {
+  from = rw (pow-succ' 2 d) (omega (arith, w .from, mul-le-mul-right (2 ^ d) l));
+  before = rw (pow-succ' 2 d) (omega (arith, w .before, mul-le-mul-right (2 ^ d) r));
+}
+
 pub below-left : (k d j : ℕ) → Below (2 * k) d j → Below k (suc d) j
-below-left k d j w = record { from = rw (pow-succ' 2 d) (omega (arith, w .from)); before = rw (pow-succ' 2 d) (omega (arith, w .before)) }
+below-left k d j = below-half k (2 * k) d j (omega arith) (omega arith)
 
 pub below-right : (k d j : ℕ) → Below (2 * k + 1) d j → Below k (suc d) j
-below-right k d j w = record { from = rw (pow-succ' 2 d) (omega (arith, w .from)); before = rw (pow-succ' 2 d) (omega (arith, w .before)) }
+below-right k d j = below-half k (2 * k + 1) d j (omega arith) (omega arith)
 
 pub below-halves : (k d j : ℕ) → Below k (suc d) j → Below (2 * k) d j ⊎ Below (2 * k + 1) d j
 below-halves k d j w =
@@ -188,10 +194,10 @@ read-written levels counts k n t has pos room =
 
 -- ---- all counts of a shape
 
-getD-zeros : (n j : ℕ) → getD {A = ℕ} (replicate n 0) j 0 ≡ 0
-getD-zeros zero j = refl
-getD-zeros (suc n) zero = refl
-getD-zeros (suc n) (suc j) = getD-zeros n j
+pub zeros-at : (n i : ℕ) → getD {A = ℕ} (replicate n 0) i 0 ≡ 0
+zeros-at zero i = refl
+zeros-at (suc n) zero = refl
+zeros-at (suc n) (suc i) = zeros-at n i
 
 module _ (room N : ℕ) (s : Shape) where
   pub length-shapeCounts : length (shapeCounts room N s) ≡ room
@@ -226,7 +232,7 @@ module _ (levels room N : ℕ) (s : Shape) (has : HasLevels levels (s .tree)) (f
       write-other levels (set (replicate room 0) 0 (s .size)) 1 N (s .tree) j has
       (λ d l u. omega (arith, u .before, pow-mono l))
       ∙ getD-set-other (replicate room 0) 0 j (s .size) 0 (λ e. omega (arith, pow-pos levels))
-      ∙ getD-zeros room j
+      ∙ zeros-at room j
 
   -- A list of counts that holds the same, with 0 at every number not in use, is this one.
   pub shapeCounts-only : (counts : List ℕ) → length counts ≡ room → getD counts 0 0 ≡ s .size → Holds counts 1 N (s .tree)

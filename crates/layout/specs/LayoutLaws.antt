@@ -3,8 +3,8 @@ use mathlib.Core.Path.{_≡_, refl, sym, ap, ap₂, _∙_}
 use mathlib.Core.List.{List, [], _∷_, _++_, append-assoc}
 use Prim.Native.Nat.{ℕ, zero, suc, _+_, _-_, _*_, _^_, _≤_, _<_}
 use lib.ListN.{length, take, drop, length-append, length-drop, take-append-drop}
-use lib.Seq.{take-nil, take-add, take-take, drop-drop, drop-cons, length-take-le}
-use native.Mathlib.Nat.{pow-succ', sub-zero, zero-sub, suc-sub-suc}
+use lib.Seq.{take-add, take-take, drop-drop, drop-cons, length-take-le}
+use native.Mathlib.Nat.{pow-succ'}
 use native.Mathlib.Omega.{arith}
 use Rattle.base.specs.Lists.{Every}
 use Rattle.base.specs.ListLaws.{every-append, every-take, every-drop}
@@ -15,21 +15,9 @@ use Rattle.rules.specs.Tree.{Tree, leaf, node, Balanced}
 use Rattle.layout.specs.Leaf.{spread, nonzero}
 use Rattle.layout.specs.Layout.{leafCounts, layLeaves}
 use Rattle.layout.specs.Room.{total}
+use Rattle.layout.specs.ListLaws.{drop-take, total-append}
 use Rattle.layout.specs.LeafLaws.{length-spread, nonzero-append, nonzero-spread}
 use Rattle.layout.specs.CountLaws.{HasLevels, Holds}
-
--- ---- sums and parts of lists
-
-total-append : (ms ns : List ℕ) → total (ms ++ ns) ≡ total ms + total ns
-unfolding total
-total-append [] ns = omega arith
-total-append (m ∷ ms) ns = omega (arith, total-append ms ns)
-
-drop-take : (m n : ℕ) (xs : List ℕ) → drop m (take n xs) ≡ take (n - m) (drop m xs)
-drop-take zero n xs = rw (sub-zero n)
-drop-take (suc m) zero xs = rw (zero-sub (suc m))
-drop-take (suc m) (suc n) [] = sym (take-nil (suc n - suc m))
-drop-take (suc m) (suc n) (x ∷ xs) = rw (suc-sub-suc n m) (drop-take m n xs)
 
 -- ---- the numbers of entries of the leaves
 

@@ -16,11 +16,14 @@ use Rattle.layout.specs.Leaf.{slotOf, Positions, place, spread, nonzero}
 div-apart : (b x y : ℕ) → 0 < b → x + b ≤ y → x / b < y / b
 div-apart b x y pos h = le-div-iff-mul-le pos .1 (omega (arith, div-mul-le-self x b))
 
+div-below : (b x y : ℕ) → 0 < b → x < y * b → x / b < y
+div-below b x y pos h = div-lt-iff-lt-mul pos .1 h
+
 pub slotOf-positions : (s n : ℕ) → n ≤ s → Positions n s (slotOf s n)
 unfolding slotOf
 slotOf-positions s n h = record {
-  rises = λ j k l m. div-apart n (j * s) (k * s) (omega arith) (omega (arith, mul-le-mul-right s l));
-  inside = λ k m. div-lt-iff-lt-mul {k = n} (omega arith) .1 (omega (arith, mul-le-mul-right s m));
+  rises = λ j k l m. omega (arith, div-apart n (j * s) (k * s) (omega arith) (omega (arith, mul-le-mul-right s l)));
+  inside = λ k m. omega (arith, div-below n (k * s) s (omega arith) (omega (arith, mul-le-mul-right s m)));
 }
 
 -- ---- entries put in at positions
@@ -124,20 +127,23 @@ module _ (s : ℕ) (xs : List ℕ) where
   unfolding spread
   length-spread = length-place (slotOf s (length xs)) 0 xs (replicate s 0) ∙ length-replicate s 0
 
-  -- 0 in a slot without an entry
-  pub spread-other : (i : ℕ) → i < s → ((k : ℕ) → k < length xs → (i ≡ slotOf s (length xs) k → ⊥)) → getD (spread s xs) i 0 ≡ 0
-  unfolding spread
-  spread-other i h other =
-      place-other (slotOf s (length xs)) 0 xs (replicate s 0) i (λ j low high. other j (omega arith)) ∙ getD-replicate s i 0 0 h
-
-  pub spread-at : length xs ≤ s → (k : ℕ) → k < length xs → getD (spread s xs) (slotOf s (length xs) k) 0 ≡ getD xs k 0
-  unfolding spread
-  spread-at fit k h =
-      rw zero-add at
-      (place-at (slotOf s (length xs)) 0 xs (replicate s 0)
-      (rw (zero-add (length xs), length-replicate) (slotOf-positions s (length xs) fit)) k h)
-
   pub nonzero-spread : length xs ≤ s → Every (λ x. 0 < x) xs → nonzero (spread s xs) ≡ xs
   unfolding spread
   nonzero-spread fit pos =
       nonzero-place (slotOf s (length xs)) 0 xs s (rw (zero-add (length xs)) (slotOf-positions s (length xs) fit)) pos
+
+module _ (s n : ℕ) (xs : List ℕ) (number : length xs ≡ n) where
+  -- 0 in a slot without an entry
+  pub spread-gap : (i : ℕ) → i < s → ((k : ℕ) → k < n → (i ≡ slotOf s n k → ⊥)) → getD (spread s xs) i 0 ≡ 0
+  unfolding spread
+  spread-gap i h other =
+      place-other (slotOf s (length xs)) 0 xs (replicate s 0) i (rw number (λ j low high. other j (omega arith)))
+      ∙ getD-replicate s i 0 0 h
+
+  pub spread-entry : n ≤ s → (k : ℕ) → k < n → getD (spread s xs) (slotOf s n k) 0 ≡ getD xs k 0
+  unfolding spread
+  spread-entry fit k h =
+      rw number
+      (rw (zero-add k) at
+      (place-at (slotOf s n) 0 xs (replicate s 0) (rw (zero-add (length xs), length-replicate, number) (slotOf-positions s n fit)) k
+      (omega arith)))

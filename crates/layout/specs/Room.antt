@@ -9,6 +9,7 @@ pub record Roomy (cap : Capacity) : Type 0 where
   pub slots-fit : (N M : ℕ) → N ≤ cap .entries → Allowed N M → slots M ≤ cap .slots
   pub counts-fit : (N M : ℕ) → N ≤ cap .entries → Allowed N M → 2 * 2 ^ height M ≤ cap .counts
 
+-- The sum of some numbers.
 unfoldable pub total : List ℕ → ℕ
 total [] = 0
 total (n ∷ ns) = n + total ns

@@ -1,16 +1,16 @@
 -- Decoding: what was laid out is read back, what decodes was laid out, and so a sheet has one list and one shape. Assumes nothing.
 use mathlib.Core.Path.{_≡_, refl, ap, ap₂, _∙_}
-use mathlib.Core.Bool.{Bool, true, false, _&&_}
+use mathlib.Core.Bool.{true, false, _&&_}
 use mathlib.Core.List.{List, append-nil}
-use mathlib.Core.Logic.{_⊎_, inl, inr, ⊎-elim}
+use mathlib.Core.Logic.{⊎-elim}
 use mathlib.Core.Option.{some, none}
 use Prim.Native.Nat.{ℕ, zero, suc, _+_, _-_, _*_}
 use lib.Dec.{leb, ltb}
-use lib.ListN.{length, replicate}
+use lib.ListN.{length, replicate, length-append, length-replicate}
 use native.Mathlib.Omega.{arith}
 use borrow.Author.Tests.{le-leb, lt-ltb, leb-true, ltb-true}
 use Rattle.base.specs.Lists.{equalLists}
-use Rattle.base.specs.ListLaws.{and-true-left, and-true-right, equal-itself, equal-sound}
+use Rattle.base.specs.ListLaws.{equal-itself, equal-sound}
 use Rattle.sizes.specs.Sizes.{height, leafSlots, slots, candidates, windowStart, Fits}
 use Rattle.sizes.specs.Fit.{fit}
 use Rattle.rules.specs.Tree.{Tree, leaf, node, Balanced, Shape, IsShape}
@@ -18,14 +18,12 @@ use Rattle.layout.specs.Leaf.{nonzero}
 use Rattle.layout.specs.Layout.{Capacity, Store, leafCounts, layLeaves, padTo, countOrder, laySlots, layCounts, layOut}
 use Rattle.layout.specs.Sheet.{IsContents, IsSheet, listOf, shapeOf, balancedTest, shapeTest, sheetTest, Contents, decode}
 use Rattle.layout.specs.Room.{Roomy}
+use Rattle.layout.specs.BoolLaws.{and-both, true-or-false}
 use Rattle.layout.specs.LeafLaws.{nonzero-positive, nonzero-append, nonzero-zeros}
-use Rattle.layout.specs.CountLaws.{HasLevels, balanced-levels, shapeCounts-read, shapeCounts-size}
-use Rattle.layout.specs.LayoutLaws.{leafCounts-total, leafCounts-fit, nonzero-layLeaves}
+use Rattle.layout.specs.CountLaws.{length-shapeCounts, HasLevels, balanced-levels, shapeCounts-read, shapeCounts-size}
+use Rattle.layout.specs.LayoutLaws.{length-leafCounts, leafCounts-total, leafCounts-fit, length-layLeaves, nonzero-layLeaves}
 
 -- ---- the tests and what they test
-
-and-both : (a b : Bool) → (a && b) ≡ true → (a ≡ true) × (b ≡ true)
-and-both a b h = (and-true-left a b h, and-true-right a b h)
 
 pub balanced-test : (M levels d n : ℕ) (t : Tree) → Balanced M levels d n t → balancedTest M levels d n t ≡ true
 unfolding Balanced balancedTest
@@ -72,16 +70,12 @@ shape-sound N s h =
       balanced = balanced-sound (s .size) (height (s .size)) 0 N (s .tree) (w .1);
     }
 
-true-or-false : (b : Bool) → (b ≡ true) ⊎ (b ≡ false)
-true-or-false true = inl refl
-true-or-false false = inr refl
-
 module _ (cap : Capacity) (store : Store) where
-  decode-true : sheetTest cap store ≡ true → decode cap store ≡ some (record { list = listOf store; shape = shapeOf store })
+  pub decode-true : sheetTest cap store ≡ true → decode cap store ≡ some (record { list = listOf store; shape = shapeOf store })
   unfolding decode
   decode-true h = rw (h, decode)
 
-  decode-false : sheetTest cap store ≡ false → decode cap store ≡ none
+  pub decode-false : sheetTest cap store ≡ false → decode cap store ≡ none
   unfolding decode
   decode-false h = rw (h, decode)
 
@@ -100,6 +94,21 @@ module _ (cap : Capacity) (list : List ℕ) (s : Shape) (w : IsContents cap list
       (leafCounts-total (s .size) (height (s .size)) 0 (length list) (s .tree) contents-fits (w .shape .balanced))
       (leafCounts-fit (s .size) (height (s .size)) 0 (length list) (s .tree) contents-fits (w .shape .balanced))
       (w .entries)
+
+  pub length-counts : length (layOut cap list s .counts) ≡ cap .counts
+  unfolding layOut layCounts countOrder
+  length-counts = length-shapeCounts (cap .counts) (length list) s
+
+  pub length-slots : Roomy cap → length (layOut cap list s .slots) ≡ cap .slots
+  unfolding layOut laySlots padTo slots
+  length-slots roomy =
+      let ns = leafCounts (length list) (s .tree) in
+      let leaves = layLeaves (leafSlots (s .size)) ns list in
+      let used : length leaves ≡ slots (s .size)
+      = length-layLeaves (leafSlots (s .size)) ns list ∙ rw (length-leafCounts (height (s .size)) (length list) (s .tree) contents-levels) in
+      length-append leaves (replicate (cap .slots - length leaves) 0)
+      ∙ rw (length-replicate {A = ℕ} (cap .slots - length leaves) 0, used)
+      (omega (arith, roomy .slots-fit (length list) (s .size) (w .room) (w .shape .allowed)))
 
   pub listOf-layOut : listOf (layOut cap list s) ≡ list
   unfolding listOf layOut laySlots padTo

@@ -2,4 +2,10 @@
 pub mod Call
 pub mod Causes
 pub mod Outcome
+pub mod Opening
+pub mod OutcomeLaws
+pub mod OpeningLaws
+pub mod CallLaws
+pub mod ClearLaws
+pub mod ChangeCallLaws
 pub mod Examples

@@ -43,7 +43,7 @@ zeroed-none : (k : ℕ) (xs : List ℕ) → zeroed k k xs ≡ xs
 unfolding zeroed
 zeroed-none k xs = rw (sub-self k) (rw append-nil (take-append-drop k xs))
 
-length-zeroed : (from to : ℕ) (xs : List ℕ) → from ≤ to → to ≤ length xs → length (zeroed from to xs) ≡ length xs
+pub length-zeroed : (from to : ℕ) (xs : List ℕ) → from ≤ to → to ≤ length xs → length (zeroed from to xs) ≡ length xs
 unfolding zeroed
 length-zeroed from to xs h l = simp (length-append, length-replicate, length-take, length-drop) (omega arith)
 

@@ -151,6 +151,13 @@ height-most M k pos l =
 pub depth-room : (M d : ℕ) → 64 < M → d ≤ height M → digits M * 2 ^ d ≤ M
 depth-room M d large h = le-trans (mul-le-mul-left (digits M) (pow-mono h)) (height-is M large .low)
 
+pub leafSlots-most : (M : ℕ) → M < 2 ^ 32 → leafSlots M < 2 ^ 32
+leafSlots-most M h =
+    ⊎-elim
+    (λ (small : M ≤ 64). rw (leafSlots-small M small) (omega arith))
+    (λ (large : 64 < M). rw (leafSlots-large M large) (omega (arith, digits-most M 32 (omega arith) (omega arith))))
+    (le-or-gt M 64)
+
 pub slots-le : (M : ℕ) → slots M ≤ 3 * M
 unfolding slots
 slots-le M =

@@ -1,0 +1,105 @@
+-- `spread_leaf` meets its contract. The loop's invariant: i slots and k entries are written (`Written`), and the slice keeps its length.
+-- Assumes nothing.
+use mathlib.Core.Path.{_≡_, refl}
+use mathlib.Core.Logic.{⊎-elim}
+use Prim.Native.Nat.{_-_}
+use lib.ListN.{length, length-set}
+use native.Mathlib.Omega.{arith}
+use borrow.Author.Needs.{needs}
+use Rattle.layout.specs.LeafLoop.{Written, entry-left, written-none, written-entry, written-gap, written-all}
+use Rattle.layout.proofs.spread_leaf.Statement.{statement}
+use Rattle.layout.proofs.spread_leaf.Tie as tie
+
+abbrev Inv-loop : tie.InvT-loop
+Inv-loop slots₀ from s list at n i₀ k₀ next₀ slots i k next = Written slots₀ from s list at n slots i k next × (length slots ≡ length slots₀)
+
+abbrev μ-loop : tie.MeasureT-loop
+μ-loop slots₀ from s list at n i₀ k₀ next₀ slots i k next = s - i
+
+next-slot-requires : tie.Need-next-slot-requires Inv-loop μ-loop
+next-slot-requires c κs = search needs
+
+loop-holds : tie.Need-loop-holds Inv-loop μ-loop
+loop-holds c = (written-none (c .before .before .before .pre) (c .next-slot .ensures), refl)
+
+add-slots : tie.Need-add-slots Inv-loop μ-loop
+add-slots c = search needs
+
+mul-slots : tie.Need-mul-slots Inv-loop μ-loop
+mul-slots c = search needs
+
+shared-slice-read-slots : tie.Need-shared-slice-read-slots Inv-loop μ-loop
+shared-slice-read-slots c =
+    omega (arith, entry-left (c .before .before .before .loop .inv .0 .passed) (omega arith) (c .before .if1 .taken))
+
+add-slots-2 : tie.Need-add-slots-2 Inv-loop μ-loop
+add-slots-2 c = search needs
+
+mul-slots-2 : tie.Need-mul-slots-2 Inv-loop μ-loop
+mul-slots-2 c = search needs
+
+slice-write-slots : tie.Need-slice-write-slots Inv-loop μ-loop
+slice-write-slots c = search needs
+
+add-k : tie.Need-add-k Inv-loop μ-loop
+add-k c = search needs
+
+next-slot-requires-2 : tie.Need-next-slot-requires-2 Inv-loop μ-loop
+next-slot-requires-2 c κs = search needs
+
+add-slots-3 : tie.Need-add-slots-3 Inv-loop μ-loop
+add-slots-3 c = search needs
+
+mul-slots-3 : tie.Need-mul-slots-3 Inv-loop μ-loop
+mul-slots-3 c = search needs
+
+slice-write-slots-2 : tie.Need-slice-write-slots-2 Inv-loop μ-loop
+slice-write-slots-2 c = search needs
+
+add-i : tie.Need-add-i Inv-loop μ-loop
+add-i c = search needs
+
+loop-less : tie.Need-loop-less Inv-loop μ-loop
+loop-less c = search needs
+
+loop-again : tie.Need-loop-again Inv-loop μ-loop
+loop-again c =
+    let ready = c .before .before .before .before .before .before .pre in
+    let inv = c .before .before .loop .inv in
+    ⊎-elim
+    (λ w. rw (w .3, w .4, w .5)
+    (written-entry ready (inv .0) (omega arith) (w .0 .taken) (w .2 .ensures), simp length-set (inv .1)))
+    (λ w. rw (w .1, w .2, w .3) (written-gap ready (inv .0) (omega arith) (w .0 .left), simp length-set (inv .1)))
+    (c .if1 .came)
+
+same-length : tie.Need-same-length Inv-loop μ-loop
+same-length c = search needs
+
+returns : tie.Need-returns Inv-loop μ-loop
+returns c =
+    written-all (c .before .before .before .before .before .pre) (c .before .loop .inv .0) (omega arith)
+
+pub spread-leaf-spec : {M : Type 1} → statement M
+spread-leaf-spec =
+    tie.close
+    (tie.spec
+    Inv-loop
+    μ-loop
+    next-slot-requires
+    loop-holds
+    add-slots
+    mul-slots
+    shared-slice-read-slots
+    add-slots-2
+    mul-slots-2
+    slice-write-slots
+    add-k
+    next-slot-requires-2
+    add-slots-3
+    mul-slots-3
+    slice-write-slots-2
+    add-i
+    loop-less
+    loop-again
+    same-length
+    returns)

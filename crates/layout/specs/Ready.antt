@@ -1,0 +1,77 @@
+-- What the code asks of its arguments, and what it answers of a list. Definitions only: they assume nothing.
+use mathlib.Core.Path.{_≡_}
+use mathlib.Core.List.{List, _++_}
+use Prim.Native.Nat.{ℕ, _+_, _*_, _^_, _≤_, _<_}
+use lib.ListN.{length, getD, take, drop}
+use Rattle.base.specs.Lists.{Every}
+use Rattle.sizes.specs.Sizes.{Allowed, height, leafSlots, slots, candidates, Fits}
+use Rattle.layout.specs.Leaf.{nonzero}
+use Rattle.layout.specs.Room.{total}
+
+-- A leaf of s slots from `from` on, for the n entries of a list from `at` on.
+pub record LeafReady (slots : List ℕ) (from s : ℕ) (list : List ℕ) (at n : ℕ) : Type 0 where
+  pub slots-room : from + s ≤ length slots
+  pub list-room : at + n ≤ length list
+  pub fit : n ≤ s
+  pub small : s < 2 ^ 32
+
+-- Leaves of s slots from `from` on, with the numbers of entries that stand in the counts from `first` on.
+pub record LeavesReady (slots : List ℕ) (from s : ℕ) (counts : List ℕ) (first leaves : ℕ) (list : List ℕ) : Type 0 where
+  pub slots-room : from + s * leaves ≤ length slots
+  pub counts-room : first + leaves ≤ length counts
+  pub list-room : total (take leaves (drop first counts)) ≤ length list
+  pub fit : Every (λ n. n ≤ s) (take leaves (drop first counts))
+  pub small : s < 2 ^ 32
+
+-- Some slots, and a list with room for the entries in them.
+pub record GatherReady (slots : List ℕ) (from len : ℕ) (list : List ℕ) : Type 0 where
+  pub slots-room : from + len ≤ length slots
+  pub list-room : length (nonzero (take len (drop from slots))) ≤ length list
+
+-- The list now has these n entries at its front, and behind them what it had.
+pub record Gathered (entries old : List ℕ) (n : ℕ) (list : List ℕ) : Type 0 where
+  pub number : n ≡ length entries
+  pub front : list ≡ entries ++ drop n old
+
+-- ---- for the check
+
+-- A leaf of s slots from `from` on, with n entries.
+pub record LeafToCheck (slots : List ℕ) (from s n : ℕ) : Type 0 where
+  pub slots-room : from + s ≤ length slots
+  pub fit : n ≤ s
+  pub small : s < 2 ^ 32
+
+-- Leaves of s slots, with the numbers of entries that stand in the counts from `first` on.
+pub record LeavesToCheck (slots : List ℕ) (s : ℕ) (counts : List ℕ) (first leaves : ℕ) : Type 0 where
+  pub slots-room : s * leaves ≤ length slots
+  pub counts-room : first + leaves ≤ length counts
+  pub fit : Every (λ n. n ≤ s) (take leaves (drop first counts))
+  pub small : s < 2 ^ 32
+
+-- In a sheet of size M, the range k at depth d, which is no leaf.
+pub record RangeToCheck (counts : List ℕ) (M d k : ℕ) : Type 0 where
+  pub halves : 2 * k + 1 < length counts
+  pub count : candidates M d ≤ getD counts k 0
+  pub least : 1 < M
+  pub most : M < 2 ^ 32
+  pub deep : d < 32
+
+-- The range k at depth d, `levels` above the leaves, and the ranges below it.
+pub record TreeToCheck (counts : List ℕ) (M levels d k : ℕ) : Type 0 where
+  pub room : (k + 1) * 2 ^ levels ≤ length counts
+  pub fits : Fits M levels d (getD counts k 0)
+  pub least : 0 < levels → 1 < M
+  pub most : M < 2 ^ 32
+  pub deep : levels + d ≤ 32
+
+-- Room for the counts of every size that the entries can have.
+pub record CountsToCheck (entries : ℕ) (counts : List ℕ) : Type 0 where
+  pub few : entries < 2 ^ 30
+  pub room : (N M : ℕ) → N ≤ entries → Allowed N M → 2 * 2 ^ height M ≤ length counts
+
+-- The slots and the counts of a sheet whose size the counts tell.
+pub record SlotsToCheck (all counts : List ℕ) : Type 0 where
+  pub most : getD counts 0 0 < 2 ^ 32
+  pub slots-room : slots (getD counts 0 0) ≤ length all
+  pub counts-room : 2 * 2 ^ height (getD counts 0 0) ≤ length counts
+  pub fit : Every (λ n. n ≤ leafSlots (getD counts 0 0)) (take (2 ^ height (getD counts 0 0)) (drop (2 ^ height (getD counts 0 0)) counts))

@@ -1,0 +1,39 @@
+-- `check` meets its contract. Assumes nothing.
+use mathlib.Core.Path.{refl}
+use Rattle.packed_sheet.specs.Causes.{contentsFor}
+use Rattle.packed_sheet.specs.CallLaws.{found, refused-before, check-done}
+use borrow.Author.Needs.{needs}
+use Rattle.packed_sheet.proofs.check.Statement.{statement}
+use Rattle.packed_sheet.proofs.check.Tie as tie
+
+slice-aggregate-examine : tie.Need-slice-aggregate-examine
+slice-aggregate-examine c = search needs
+
+examine-requires : tie.Need-examine-requires
+examine-requires c κs = search needs
+
+enum-known-n : tie.Need-enum-known-n
+enum-known-n c = search needs
+
+enum-known-cause : tie.Need-enum-known-cause
+enum-known-cause c = search needs
+
+returns : tie.Need-returns
+returns c =
+    check-done _ _ _ (found _ _ _ _ _ _ _ (c .before .before .before .before .examine .ensures) (c .before .n .given .1))
+
+returns-2 : tie.Need-returns-2
+unfolding contentsFor
+returns-2 c =
+    refused-before _ _ _ _ _ _ _ _ _ refl (c .before .before .before .before .examine .ensures) (c .before .cause .given .1)
+
+pub check-spec : {M : Type 1} → statement M
+check-spec =
+    tie.close
+    (tie.spec
+    slice-aggregate-examine
+    examine-requires
+    enum-known-n
+    enum-known-cause
+    returns
+    returns-2)

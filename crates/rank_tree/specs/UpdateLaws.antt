@@ -1,0 +1,288 @@
+-- Laws of the whole change: what the size step and the walk end with, what they ask, and what they leave. Assumes nothing.
+use mathlib.Core.Path.{_≡_, refl, ap, sym, _∙_, subst}
+use mathlib.Core.Logic.{inl, inr, _≢_}
+use mathlib.Core.List.{List, [], _∷_, _++_}
+use Prim.Native.Nat.{ℕ, zero, suc, _+_, _-_, _*_, _≤_, _<_}
+use native.Mathlib.Omega.{arith}
+use native.Mathlib.Numerals.{add-one}
+use lib.ListN.{length, set, take, replicate, replicate-append-replicate}
+use lib.Seq.{take-all, take-suc-set}
+use Rattle.base.specs.CaseLaws.{by-eq, by-lt, by-le}
+use Rattle.shares.specs.Program.{Program, done, draw, Ends}
+use Rattle.shares.specs.ProgramLaws.{ends-bind}
+use Rattle.shares.specs.Course.{Follows}
+use Rattle.shares.specs.Tape.{Ran, ran, ended, runAt, afterRun, facesOn}
+use Rattle.shares.specs.TapeLaws.{run-bind, run-follows}
+use Rattle.sizes.specs.Sizes.{Allowed, height, candidates}
+use Rattle.sizes.specs.Fit.{fit}
+use Rattle.rules.specs.declared.Change.{Change}
+use Rattle.rules.specs.declared.Change.the-variants.{Insert, Delete}
+use Rattle.rules.specs.declared.Comparison.{Comparison}
+use Rattle.rules.specs.declared.Comparison.the-variants.{Unchanged, Swapped}
+use Rattle.rules.specs.declared.Stepped.{Stepped}
+use Rattle.rules.specs.declared.Stepped.the-variants as stepped
+use Rattle.rules.specs.Tree.{Tree, leaf, node}
+use Rattle.rules.specs.Compare.{countAfter, compare}
+use Rattle.rules.specs.Rules.{InReach, join, rebuild, rebuildHalves, visit, walk, rankOf, SizeStep, kept, anew, grow, insertSize, shrink, deleteSize, sizeStep, fresh, reshape, update}
+use Rattle.rules.specs.Step.{steppedAs}
+use Rattle.rank_tree.specs.declared.Rebuilt.{Rebuilt}
+use Rattle.rank_tree.specs.declared.Rebuilt.the-variants as rebuilt
+use Rattle.rank_tree.specs.declared.Walked.{Walked}
+use Rattle.rank_tree.specs.declared.Walked.the-variants as walked
+use Rattle.rank_tree.specs.declared.Updated.{Updated}
+use Rattle.rank_tree.specs.declared.Updated.the-variants as updated
+use Rattle.rank_tree.specs.Counts.{readTree, writeTree, shapeCounts}
+use Rattle.rank_tree.specs.Update.{shapeIn, Ready, Confined, UpdatedAs}
+use Rattle.rank_tree.specs.Rebuild.{CanRebuild, RebuiltAs}
+use Rattle.rank_tree.specs.Walk.{Holds, CanWalk, walkRun, WalkedAs}
+use Rattle.rank_tree.specs.CountLaws.{Perfect, balanced-perfect, write-over, holds-written}
+
+-- ---- what the programs end with
+
+-- A run on a tape ends with a value that every run of the program meets.
+follows-ends : {A : Type 0} (R : A → Type 0) (p : Program A) (faces : List ℕ) (a : A) → Ends R p → Follows p faces a → R a
+unfolding Ends Follows
+follows-ends R (done b) [] a e h = subst R h e
+follows-ends R (done b) (face ∷ faces) a e h = absurd h
+follows-ends R (draw m p) [] a e h = absurd h
+follows-ends R (draw m p) (face ∷ faces) a e h = follows-ends R (p face) faces a (e face (h .0)) (h .1)
+
+run-ends : {A : Type 0} (R : A → Type 0) (p : Program A) (tape : List ℕ) (at : ℕ) (a : A) (next : ℕ) → Ends R p
+    → runAt p tape at ≡ ran a next → R a
+run-ends R p tape at a next e h = follows-ends R p (facesOn p tape at) a e (run-follows p tape at a next h)
+
+-- The size parameter after the step is one that the entries after the change can have.
+unfoldable StepAllowed : ℕ → ℕ → SizeStep → Type 0
+StepAllowed N M kept = Allowed N M
+StepAllowed N M (anew M′) = Allowed N M′
+
+grow-allowed : (N M : ℕ) → N ≢ 0 → Ends (StepAllowed (suc N) M) (grow N)
+unfolding grow Ends StepAllowed
+grow-allowed N M some = λ face h. record { least = omega arith; most = omega arith }
+
+insert-allowed : (N M : ℕ) → Allowed N M → Ends (StepAllowed (suc N) M) (insertSize N M)
+unfolding insertSize Ends StepAllowed
+insert-allowed N M a =
+    by-eq (Ends (StepAllowed (suc N) M)) N 0 _ _
+    (λ e. record { least = omega arith; most = omega arith })
+    (λ some. by-eq (Ends (StepAllowed (suc N) M)) M N _ _
+    (λ e. grow-allowed N M some)
+    (λ ne face h. by-eq (Ends (StepAllowed (suc N) M)) face 0 _ _
+    (λ first. grow-allowed N M some)
+    (λ later. record { least = omega (arith, a .least); most = omega (arith, a .most) })))
+
+delete-allowed : (N M : ℕ) → 0 < N → Allowed N M → Ends (StepAllowed (N - 1) M) (deleteSize N M)
+unfolding deleteSize shrink Ends StepAllowed
+delete-allowed N M some a =
+    by-eq (Ends (StepAllowed (N - 1) M)) N 1 _ _
+    (λ e. record { least = omega arith; most = omega arith })
+    (λ more. by-le (Ends (StepAllowed (N - 1) M)) (2 * N - 2) M _ _
+    (λ l face h. by-lt (Allowed (N - 1)) face (N - 2) _ _
+    (λ k. record { least = omega arith; most = omega arith })
+    (λ k. record { least = omega arith; most = omega arith }))
+    (λ l. record { least = omega (arith, a .least); most = omega arith }))
+
+step-allowed : (change : Change) (N M : ℕ) → InReach change N → Allowed N M
+    → Ends (StepAllowed (countAfter change N) M) (sizeStep change N M)
+unfolding sizeStep countAfter InReach
+step-allowed (Insert i) N M reach a = insert-allowed N M a
+step-allowed (Delete i) N M reach a = delete-allowed N M (omega arith) a
+
+-- All leaves of a range stay at their depth.
+join-perfect : (levels b : ℕ) (l r : Program Tree) → Ends (Perfect levels) l → Ends (Perfect levels) r
+    → Ends (Perfect (suc levels)) (join b l r)
+unfolding join Perfect Ends
+join-perfect levels b l r p q =
+    ends-bind (Perfect levels) (Perfect (suc levels)) l _ p (λ t h.
+    ends-bind (Perfect levels) (Perfect (suc levels)) r _ q (λ t′ h′. (h, h′)))
+
+rebuild-perfect : (M levels d n : ℕ) → Ends (Perfect levels) (rebuild M levels d n)
+unfolding rebuild Ends Perfect
+rebuild-perfect M zero d n = tt
+rebuild-perfect M (suc levels) d n = λ face h.
+    join-perfect levels _ _ _ (rebuild-perfect M levels (suc d) _) (rebuild-perfect M levels (suc d) _)
+
+visit-ends : (R : Tree → Type 0) (found : Comparison) (c b : ℕ) (again : Program Tree) (halves : ℕ → Program Tree) (onward : Program Tree)
+    → Ends R again → ((into : ℕ) → Ends R (halves into)) → Ends R onward → Ends R (visit found c b again halves onward)
+unfolding visit Ends
+visit-ends R Unchanged c b again halves onward p q r = r
+visit-ends R (Swapped out into) c b again halves onward p q r =
+    by-eq (Ends R) b out _ _ (λ e. p) (λ ne face h. by-eq (Ends R) face 0 _ _ (λ e. q into) (λ ne. r))
+
+walk-perfect : (M levels d : ℕ) (here : Change) (n : ℕ) (t : Tree) → Perfect levels t → Ends (Perfect levels) (walk M levels d here n t)
+unfolding walk Ends Perfect rebuildHalves
+walk-perfect M zero d here n t p = tt
+walk-perfect M (suc levels) d here n leaf p = absurd p
+walk-perfect M (suc levels) d here n (node b l r) p =
+    visit-ends (Perfect (suc levels)) (compare here n (candidates M d)) (candidates M d) b _ _ _
+    (rebuild-perfect M (suc levels) d (countAfter here n))
+    (λ into. join-perfect levels into _ _ (rebuild-perfect M levels (suc d) _) (rebuild-perfect M levels (suc d) _))
+    (by-lt (Ends (Perfect (suc levels))) b (rankOf here) _ _
+    (λ h. ends-bind (Perfect levels) (Perfect (suc levels)) _ _ (walk-perfect M levels (suc d) _ _ r (p .1)) (λ t q. (p .0, q)))
+    (λ h. ends-bind (Perfect levels) (Perfect (suc levels)) _ _ (walk-perfect M levels (suc d) _ _ l (p .0)) (λ t q. (q, p .1))))
+
+-- ---- all counts zero
+
+pub zero-more : (counts : List ℕ) (i : ℕ) → i < length counts → take i counts ≡ replicate i 0
+    → take (i + 1) (set counts i 0) ≡ replicate (i + 1) 0
+zero-more counts i h e =
+    ap (λ (j : ℕ). take j (set counts i 0)) (add-one i)
+    ∙ take-suc-set counts i 0 h
+    ∙ ap (λ (c : List ℕ). c ++ (0 ∷ [])) e
+    ∙ replicate-append-replicate i 1 0
+
+pub zero-all : (counts : List ℕ) (i room : ℕ) → length counts ≡ room → i ≡ room → take i counts ≡ replicate i 0
+    → counts ≡ replicate room 0
+zero-all counts i room el ei e = sym (take-all i counts (omega arith)) ∙ e ∙ ap (λ (j : ℕ). replicate j 0) ei
+
+-- ---- answers
+
+-- What the change comes to where the size parameter M was kept, by what the walk came to.
+unfoldable pub walkedTo : ℕ → Walked → Updated
+walkedTo M (walked.Done part next) = updated.Done M part next
+walkedTo M walked.Ended = updated.Ended
+
+-- What it comes to where M was set anew and everything rebuilt.
+unfoldable pub rebuiltTo : ℕ → ℕ → Rebuilt → Updated
+rebuiltTo M rank (rebuilt.Done next) = updated.Done M (record { range = 1; depth = 0; rank = rank }) next
+rebuiltTo M rank rebuilt.Ended = updated.Ended
+
+stepped-kept : (run : Ran SizeStep) (next : ℕ) → steppedAs run ≡ stepped.Kept next → run ≡ ran kept next
+unfolding steppedAs
+stepped-kept (ran kept i) next e = let d : i ≡ next = cc in rw d
+stepped-kept (ran (anew M) i) next e = let z : _≡_ {A = ℕ} 0 1 = cc in absurd (omega arith)
+stepped-kept ended next e = let z : _≡_ {A = ℕ} 0 1 = cc in absurd (omega arith)
+
+stepped-anew : (run : Ran SizeStep) (M next : ℕ) → steppedAs run ≡ stepped.Anew M next → run ≡ ran (anew M) next
+unfolding steppedAs
+stepped-anew (ran kept i) M next e = let z : _≡_ {A = ℕ} 0 1 = cc in absurd (omega arith)
+stepped-anew (ran (anew M′) i) M next e = let d : i ≡ next = cc in let d′ : M′ ≡ M = cc in rw (d, d′)
+stepped-anew ended M next e = let z : _≡_ {A = ℕ} 0 1 = cc in absurd (omega arith)
+
+stepped-ended : (run : Ran SizeStep) → steppedAs run ≡ stepped.Ended → run ≡ ended
+unfolding steppedAs
+stepped-ended (ran kept i) e = let z : _≡_ {A = ℕ} 0 1 = cc in absurd (omega arith)
+stepped-ended (ran (anew M) i) e = let z : _≡_ {A = ℕ} 0 1 = cc in absurd (omega arith)
+stepped-ended ended e = refl
+
+-- ---- what the change asks
+
+after-few : (change : Change) (N : ℕ) → countAfter change N ≤ suc N
+unfolding countAfter
+after-few (Insert i) N = omega arith
+after-few (Delete i) N = omega arith
+
+module _ {change : Change} {N M : ℕ} {counts : List ℕ} (ready : Ready change N M counts) where
+  allowed : Allowed N M
+  unfolding shapeIn
+  allowed = ready .shape .allowed
+
+  tree-perfect : Perfect (height M) (readTree (height M) counts 1)
+  unfolding shapeIn
+  tree-perfect = balanced-perfect M (height M) 0 N (readTree (height M) counts 1) (ready .shape .balanced)
+
+  held : counts ≡ writeTree (set (replicate (length counts) 0) 0 M) 1 N (readTree (height M) counts 1)
+  unfolding shapeIn shapeCounts
+  held = ready .held
+
+  pub can-fresh : (M′ : ℕ) → Allowed (countAfter change N) M′ → CanRebuild M′ (height M′) 0 1 (countAfter change N) (length counts)
+  can-fresh M′ a = record {
+    fits = fit (countAfter change N) M′ a;
+    leaves = omega arith;
+    inside = ready .new-room M′ a;
+    few = omega (arith, ready .few, after-few change N);
+    small = omega (arith, a .most, ready .few, after-few change N);
+  }
+
+  pub can-walk : Allowed (countAfter change N) M → CanWalk change N M counts
+  unfolding shapeIn
+  can-walk a = record {
+    reach = ready .reach;
+    holds =
+        subst (λ (c : List ℕ). Holds c 1 N (readTree (height M) counts 1)) (sym held)
+        (holds-written (height M) (readTree (height M) counts 1) (set (replicate (length counts) 0) 0 M) 1 N (omega arith) tree-perfect);
+    balanced = ready .shape .balanced;
+    fits = fit N M allowed;
+    can = can-fresh M a;
+  }
+
+  -- ---- the answer
+
+  kept-as : (run : Ran Tree) (result : Walked) (counts′ : List ℕ) → ((t : Tree) (next : ℕ) → run ≡ ran t next → Perfect (height M) t)
+      → WalkedAs change N (readTree (height M) counts 1) counts run result counts′
+      → UpdatedAs change N (shapeIn M counts) (afterRun run (λ t next. ran (record { size = M; tree = t }) next)) (walkedTo M result)
+      (length counts) counts′
+  unfolding WalkedAs UpdatedAs afterRun walkedTo Confined shapeIn shapeCounts
+  kept-as (ran t next) result counts′ perfect h = (
+    h .0,
+    ap (walkedTo M) (h .1),
+    h .2
+        ∙ ap (λ (c : List ℕ). writeTree c 1 (countAfter change N) t) held
+        ∙ write-over (height M) (readTree (height M) counts 1) t _ 1 N (countAfter change N) (omega arith) tree-perfect
+        (perfect t next refl),
+    inr (refl, h .3),
+  )
+  kept-as ended result counts′ perfect h = ap (walkedTo M) h
+
+  anew-as : (run : Ran Tree) (M′ : ℕ) (result : Rebuilt) (counts′ : List ℕ)
+      → RebuiltAs run result 1 (countAfter change N) (set (replicate (length counts) 0) 0 M′) counts′
+      → UpdatedAs change N (shapeIn M counts) (afterRun run (λ t next. ran (record { size = M′; tree = t }) next))
+      (rebuiltTo M′ (rankOf change) result) (length counts) counts′
+  unfolding RebuiltAs UpdatedAs afterRun rebuiltTo Confined shapeCounts
+  anew-as (ran t next) M′ result counts′ h = (_, ap (rebuiltTo M′ (rankOf change)) (h .0), h .1, inl refl)
+  anew-as ended M′ result counts′ h = ap (rebuiltTo M′ (rankOf change)) h
+
+  -- ---- the size step
+
+  module _ (tape : List ℕ) (answer : Stepped) (is : answer ≡ steppedAs (runAt (sizeStep change N M) tape 0)) where
+    step-meets : (step : SizeStep) (next : ℕ) → runAt (sizeStep change N M) tape 0 ≡ ran step next → StepAllowed (countAfter change N) M step
+    step-meets step next e =
+        run-ends (StepAllowed (countAfter change N) M) (sizeStep change N M) tape 0 step next
+        (step-allowed change N M (ready .reach) allowed) e
+
+    update-run : runAt (update change N (shapeIn M counts)) tape 0
+        ≡ afterRun (runAt (sizeStep change N M) tape 0) (λ step next. runAt (reshape change N (shapeIn M counts) step) tape next)
+    unfolding update shapeIn
+    update-run = run-bind (sizeStep change N M) (reshape change N (shapeIn M counts)) tape 0
+
+    module _ (next : ℕ) (e : answer ≡ stepped.Kept next) where
+      step-kept : runAt (sizeStep change N M) tape 0 ≡ ran kept next
+      step-kept = stepped-kept (runAt (sizeStep change N M) tape 0) next (sym is ∙ e)
+
+      pub kept-can : CanWalk change N M counts
+      unfolding StepAllowed
+      kept-can = can-walk (step-meets kept next step-kept)
+
+      pub kept-updated : (result : Walked) (counts′ : List ℕ)
+          → WalkedAs change N (readTree (height M) counts 1) counts (walkRun change N M counts tape next) result counts′
+          → UpdatedAs change N (shapeIn M counts) (runAt (update change N (shapeIn M counts)) tape 0) (walkedTo M result) (length counts) counts′
+      unfolding afterRun reshape shapeIn walkRun runAt
+      kept-updated result counts′ h =
+          rw (update-run, step-kept, run-bind)
+          (kept-as (walkRun change N M counts tape next) result counts′
+          (λ t i r. run-ends (Perfect (height M)) (walk M (height M) 0 change N (readTree (height M) counts 1)) tape next t i
+          (walk-perfect M (height M) 0 change N (readTree (height M) counts 1) tree-perfect) r)
+          h)
+
+    module _ (M′ next : ℕ) (e : answer ≡ stepped.Anew M′ next) where
+      step-anew : runAt (sizeStep change N M) tape 0 ≡ ran (anew M′) next
+      step-anew = stepped-anew (runAt (sizeStep change N M) tape 0) M′ next (sym is ∙ e)
+
+      module _ (n : ℕ) (en : n ≡ countAfter change N) where
+        pub anew-can : CanRebuild M′ (height M′) 0 1 n (length counts)
+        unfolding StepAllowed
+        anew-can = rw en (can-fresh M′ (step-meets (anew M′) next step-anew))
+
+        pub anew-updated : (rank : ℕ) (result : Rebuilt) (counts′ : List ℕ) → rank ≡ rankOf change
+            → RebuiltAs (runAt (rebuild M′ (height M′) 0 n) tape next) result 1 n (set (replicate (length counts) 0) 0 M′) counts′
+            → UpdatedAs change N (shapeIn M counts) (runAt (update change N (shapeIn M counts)) tape 0) (rebuiltTo M′ rank result)
+            (length counts) counts′
+        unfolding afterRun reshape fresh runAt
+        anew-updated rank result counts′ er h =
+            rw (er, update-run, step-anew, run-bind)
+            (anew-as (runAt (rebuild M′ (height M′) 0 (countAfter change N)) tape next) M′ result counts′ (rw en at h))
+
+    pub ended-updated : (counts′ : List ℕ) → answer ≡ stepped.Ended
+        → UpdatedAs change N (shapeIn M counts) (runAt (update change N (shapeIn M counts)) tape 0) updated.Ended (length counts) counts′
+    unfolding afterRun UpdatedAs
+    ended-updated counts′ e = rw (update-run, stepped-ended (runAt (sizeStep change N M) tape 0) (sym is ∙ e)) refl
