@@ -6,6 +6,7 @@ use lib.ListN.{take, drop}
 use Rattle.layout.specs.Layout.{Capacity}
 use Rattle.packed_sheet.specs.declared.Cause.{Cause}
 use Rattle.packed_sheet.specs.declared.Cause.the-variants as cause
+use Rattle.packed_sheet.specs.declared.Returned.{Returned}
 use Rattle.packed_sheet.specs.declared.Answer.{Answer}
 use Rattle.packed_sheet.specs.declared.Answer.the-variants as answer
 
@@ -28,7 +29,7 @@ listAfter (place i) list = list
 listAfter check list = list
 
 -- The number of a cause.
-unfoldable pub causeNumber : Cause → ℕ
+abbrev pub causeNumber : Cause → ℕ
 causeNumber cause.Lengths = 1
 causeNumber cause.NotASheet = 2
 causeNumber cause.EntryZero = 3
@@ -40,12 +41,7 @@ causeNumber cause.NoFrame = 8
 causeNumber cause.TapeFull = 9
 
 -- What is returned: the number of the cause, or 0 where the call is accepted, and two values, 0 where there are fewer.
-pub record Returned : Type 0 where
-  pub number : ℕ
-  pub first : ℕ
-  pub second : ℕ
-
-unfoldable pub returned : Answer → Returned
+abbrev pub returned : Answer → Returned
 returned answer.Cleared = record { number = 0; first = 0; second = 0 }
 returned (answer.Changed n words) = record { number = 0; first = n; second = words }
 returned (answer.Entries count) = record { number = 0; first = count; second = 0 }
