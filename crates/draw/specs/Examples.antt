@@ -1,7 +1,6 @@
 -- The definition of the draw on written tapes. Assumes nothing.
 use mathlib.Core.Path.{_≡_, refl}
 use mathlib.Core.List.{[], _∷_}
-use Prim.Native.Nat.{_^_}
 use Rattle.base.specs.Cases.{ifEq, ifLt}
 use Rattle.draw.specs.declared.Drawn.the-variants.{Face, Ended}
 use Rattle.draw.specs.Draw.{scan, drawFrom, drawAt}

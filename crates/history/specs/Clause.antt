@@ -2,26 +2,19 @@
 use mathlib.Core.Path.{_≡_}
 use mathlib.Core.Logic.{_↔_}
 use mathlib.Core.List.{List, [], _∷_}
-use native.Mathlib.Omega.{arith}
 use lib.ListN.{length}
 use Rattle.shares.specs.Fraction.{_≐_, unit}
 use Rattle.shares.specs.Course.{Follows, share}
-use Rattle.sizes.specs.Capacity.{slots-2047, counts-2047}
+use Rattle.shares.specs.CourseLaws.{follows-unique}
 use Rattle.rules.specs.Tree.{Shape, IsShape}
 use Rattle.canonical.specs.ShapeShare.{shapeProduct}
 use Rattle.layout.specs.Layout.{Store, layOut}
-use Rattle.layout.specs.Room.{Roomy}
 use Rattle.packed_sheet.specs.Call.{Call, clear, clubs}
+use Rattle.packed_sheet.specs.OpeningLaws.{clubs-roomy}
 use Rattle.history.specs.History.{history, RightLengths, listAtEnd, equalStores, SameTable, Sent, lastStore, NoneEnds, facesSent, callsOf}
 use Rattle.history.specs.Words.{words-decide}
 use Rattle.history.specs.Independence.{history-independent}
 use Rattle.history.specs.Shares.{sheet-share}
-
-pub clubs-roomy : Roomy clubs
-clubs-roomy = record {
-  slots-fit = λ N M h a. slots-2047 M (omega (arith, a .most));
-  counts-fit = λ N M h a. counts-2047 M (omega (arith, a .most));
-}
 
 -- For every two histories, on stores that held anything at all before: every store has the same share in both exactly when both end with
 -- the same list.
@@ -33,12 +26,14 @@ clause = history-independent clubs clubs-roomy
 unfoldable pub clearing : Sent
 clearing = record { call = clear; tape = []; output = [] }
 
--- For every history and whatever words the tapes of its calls hold: if no call returns 7, the calls leave the store at the end of the
--- course whose faces those words decide.
-pub words : (sent : List Sent) (store : Store) → NoneEnds clubs (clearing ∷ sent) store
-    → Follows (history clubs (callsOf sent) store) (facesSent clubs (clearing ∷ sent) store) (lastStore clubs (clearing ∷ sent) store)
+-- For every history and whatever words the tapes of its calls hold: if no call returns 7, the calls leave exactly the store with which the
+-- course ends whose faces those words decide.
+pub words : (sent : List Sent) (store : Store) → NoneEnds clubs (clearing ∷ sent) store → (final : Store)
+    → Follows (history clubs (callsOf sent) store) (facesSent clubs (clearing ∷ sent) store) final ↔ (final ≡ lastStore clubs (clearing ∷ sent) store)
 unfolding history callsOf clearing
-words sent store = words-decide clubs (clearing ∷ sent) store
+words sent store none final =
+    let course = words-decide clubs (clearing ∷ sent) store none in
+    (λ other. follows-unique _ _ final _ other course, λ e. rw e course)
 
 -- Each sheet of the list at the end has the share 1 / N times 1 / c for each range above the leaves.
 pub sheet-shares : (calls : List Call) (store : Store) → RightLengths clubs store → (s : Shape) → IsShape (length (listAtEnd clubs calls)) s

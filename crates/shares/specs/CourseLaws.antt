@@ -1,5 +1,5 @@
 -- `courses` lists each run of faces that the program allows exactly once, with the value that it ends with. Assumes nothing.
-use mathlib.Core.Path.{_≡_, refl, _∙_}
+use mathlib.Core.Path.{_≡_, refl, sym, _∙_}
 use mathlib.Core.Logic.{_≢_, ⊎-elim}
 use mathlib.Core.List.{List, [], _∷_, _++_, map}
 use Prim.Native.Nat.{ℕ, zero, suc, _+_, _≤_, _<_}
@@ -73,6 +73,14 @@ module _ {A : Type 0} where
   courses-once (draw m p) [] a e = absurd e
   courses-once (draw m p) (f ∷ fs) a e =
       listed-concat m f m fs (λ g. courses (p g)) (e .0) ∙ courses-once (p f) fs a (e .1)
+
+-- A run of faces ends with one value.
+pub follows-unique : {A : Type 0} (p : Program A) (faces : List ℕ) (a b : A) → Follows p faces a → Follows p faces b → a ≡ b
+unfolding Follows
+follows-unique (done x) [] a b e h = sym e ∙ h
+follows-unique (done x) (f ∷ fs) a b e h = absurd e
+follows-unique (draw m p) [] a b e h = absurd e
+follows-unique (draw m p) (f ∷ fs) a b e h = follows-unique (p f) fs a b (e .1) (h .1)
 
 -- A run of faces, and a run of what follows.
 pub follows-bind : {A B : Type 0} (p : Program A) (k : A → Program B) (fs gs : List ℕ) (a : A) (b : B)

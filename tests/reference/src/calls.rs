@@ -1,0 +1,274 @@
+//! The six calls on lent slices (01, "Causes and numbers").
+
+use crate::coins::{Source, Tape};
+use crate::layout::{sheet_in, Counts, Node, Shape, Sheet, Slots, ROOT};
+use crate::rules::{plan, Change, Plan};
+use crate::sizes::MAX_ENTRIES;
+
+/// Why a call or a line was refused. The first cause in this order decides.
+#[derive(Clone, Copy, Debug, PartialEq, Eq, PartialOrd, Ord)]
+pub enum Cause {
+    /// Slots not 4,224 or counts not 256.
+    Lengths = 1,
+    /// Not a sheet by the rules.
+    NotASheet = 2,
+    /// Entry zero.
+    EntryZero = 3,
+    /// Rank > N (insert), ≥ N (others), or first > last.
+    Rank = 4,
+    /// Insert with N = 1,024.
+    Full = 5,
+    /// Output shorter than last − first + 1.
+    Output = 6,
+    /// The tape ends before a draw is decided.
+    TapeEnds = 7,
+    /// The line is no frame.
+    NoFrame = 8,
+    /// The tape line would pass 1,024 waiting words.
+    TapeFull = 9,
+}
+
+impl Cause {
+    pub const fn number(self) -> u8 {
+        self as u8
+    }
+}
+
+/// What a call returns.
+#[derive(Clone, Copy, Debug, PartialEq, Eq)]
+pub enum Answer {
+    /// Clear.
+    Cleared,
+    /// Insert and delete: the new N, and the words read.
+    Changed { n: usize, words: usize },
+    /// Read: the number of entries.
+    Read { entries: usize },
+    /// Place of a rank: the place and its points.
+    Placed { place: usize, points: usize },
+    /// Check: N.
+    Checked { n: usize },
+    /// Refused; all slices are as they were.
+    Refused(Cause),
+}
+
+impl Answer {
+    /// The cause number, or 0 where accepted.
+    pub const fn number(self) -> u8 {
+        match self {
+            Answer::Refused(cause) => cause.number(),
+            _ => 0,
+        }
+    }
+
+    /// The values returned beside the number; zeros where there are none.
+    pub const fn values(self) -> [usize; 2] {
+        match self {
+            Answer::Cleared | Answer::Refused(_) => [0, 0],
+            Answer::Changed { n, words } => [n, words],
+            Answer::Read { entries } => [entries, 0],
+            Answer::Placed { place, points } => [place, points],
+            Answer::Checked { n } => [n, 0],
+        }
+    }
+}
+
+impl From<Result<Answer, Cause>> for Answer {
+    fn from(result: Result<Answer, Cause>) -> Answer {
+        result.unwrap_or_else(Answer::Refused)
+    }
+}
+
+/// "Clear can meet only 1, and makes any contents the empty sheet."
+pub fn clear(slots: &mut [u64], counts: &mut [u16]) -> Answer {
+    match lent_mut(slots, counts) {
+        Ok((slots, counts)) => {
+            slots.fill(0);
+            counts.fill(0);
+            Answer::Cleared
+        }
+        Err(cause) => Answer::Refused(cause),
+    }
+}
+
+/// Inserts an entry at a rank, with coins from the start of `tape`.
+pub fn insert(
+    slots: &mut [u64],
+    counts: &mut [u16],
+    rank: usize,
+    entry: u64,
+    tape: &[u32],
+) -> Answer {
+    let mut tape = Tape::new(tape);
+    let result = insert_from(slots, counts, rank, entry, &mut tape);
+    changed(result, &tape)
+}
+
+/// Deletes the entry at a rank, with coins from the start of `tape`.
+pub fn delete(slots: &mut [u64], counts: &mut [u16], rank: usize, tape: &[u32]) -> Answer {
+    let mut tape = Tape::new(tape);
+    let result = delete_from(slots, counts, rank, &mut tape);
+    changed(result, &tape)
+}
+
+fn changed(result: Result<usize, Cause>, tape: &Tape) -> Answer {
+    result
+        .map(|n| Answer::Changed {
+            n,
+            words: tape.place(),
+        })
+        .into()
+}
+
+/// Reads ranks `first` to `last` inclusive into the front of `output`.
+pub fn read(
+    slots: &[u64],
+    counts: &[u16],
+    first: usize,
+    last: usize,
+    output: &mut [u64],
+) -> Answer {
+    read_entries(slots, counts, first, last, output).into()
+}
+
+fn read_entries(
+    slots: &[u64],
+    counts: &[u16],
+    first: usize,
+    last: usize,
+    output: &mut [u64],
+) -> Result<Answer, Cause> {
+    let (slots, counts) = lent(slots, counts)?;
+    let sheet = checked(slots, counts)?;
+    if first > last || last >= sheet.n {
+        return Err(Cause::Rank);
+    }
+    let entries = last - first + 1;
+    let front = output.get_mut(..entries).ok_or(Cause::Output)?;
+    let places = sheet.shape.entry_slots(Node::ROOT, counts).skip(first);
+    for (entry, slot) in front.iter_mut().zip(places) {
+        *entry = slots[slot];
+    }
+    Ok(Answer::Read { entries })
+}
+
+/// "Rank i has place i + 1 and as many points as its place."
+pub fn place(slots: &[u64], counts: &[u16], rank: usize) -> Answer {
+    let place_of_rank = |sheet: Sheet| {
+        if rank >= sheet.n {
+            return Err(Cause::Rank);
+        }
+        Ok(Answer::Placed {
+            place: rank + 1,
+            points: rank + 1,
+        })
+    };
+    lent(slots, counts)
+        .and_then(|(slots, counts)| checked(slots, counts))
+        .and_then(place_of_rank)
+        .into()
+}
+
+/// Whether the store is a sheet, and its length.
+pub fn check(slots: &[u64], counts: &[u16]) -> Answer {
+    lent(slots, counts)
+        .and_then(|(slots, counts)| checked(slots, counts))
+        .map(|sheet| Answer::Checked { n: sheet.n })
+        .into()
+}
+
+/// Insert with coins from any source: the new N, or the cause of a refusal.
+pub fn insert_from<S: Source>(
+    slots: &mut [u64],
+    counts: &mut [u16],
+    rank: usize,
+    entry: u64,
+    source: &mut S,
+) -> Result<usize, Cause> {
+    let (slots, counts) = lent_mut(slots, counts)?;
+    let sheet = checked(slots, counts)?;
+    if entry == 0 {
+        return Err(Cause::EntryZero);
+    }
+    if rank > sheet.n {
+        return Err(Cause::Rank);
+    }
+    if sheet.n == MAX_ENTRIES {
+        return Err(Cause::Full);
+    }
+    let plan =
+        plan(&sheet.shape, counts, Change::Insert { rank }, source).map_err(|_| Cause::TapeEnds)?;
+    carry_out(&sheet.shape, &plan, entry, slots, counts);
+    Ok(plan.n())
+}
+
+/// Delete with coins from any source: the new N, or the cause of a refusal.
+pub fn delete_from<S: Source>(
+    slots: &mut [u64],
+    counts: &mut [u16],
+    rank: usize,
+    source: &mut S,
+) -> Result<usize, Cause> {
+    let (slots, counts) = lent_mut(slots, counts)?;
+    let sheet = checked(slots, counts)?;
+    if rank >= sheet.n {
+        return Err(Cause::Rank);
+    }
+    let plan =
+        plan(&sheet.shape, counts, Change::Delete { rank }, source).map_err(|_| Cause::TapeEnds)?;
+    carry_out(&sheet.shape, &plan, 0, slots, counts);
+    Ok(plan.n())
+}
+
+/// Writes a plan into the store: the range it names is taken up, changed, and
+/// laid out anew. `entry` is the one an insert brings.
+fn carry_out(old: &Shape, plan: &Plan, entry: u64, slots: &mut Slots, counts: &mut Counts) {
+    let mut list = [0; MAX_ENTRIES];
+    let node = plan.node;
+    let n = usize::from(counts[node.number]);
+    old.gather(node, slots, counts, &mut list[..n]);
+    let rank = plan.change.rank();
+    match plan.change {
+        Change::Insert { .. } => {
+            list.copy_within(rank..n, rank + 1);
+            list[rank] = entry;
+        }
+        Change::Delete { .. } => list.copy_within(rank + 1..n, rank),
+    }
+    slots[old.slots_under(node)].fill(0);
+    *counts = plan.counts;
+    let new = if plan.m() == old.m {
+        *old
+    } else {
+        Shape::of(plan.m())
+    };
+    let n = usize::from(counts[node.number]);
+    new.lay_out(node, slots, counts, &list[..n]);
+}
+
+/// The lent slices at their right lengths, or cause 1.
+fn lent<'a>(slots: &'a [u64], counts: &'a [u16]) -> Result<(&'a Slots, &'a Counts), Cause> {
+    match (slots.try_into(), counts.try_into()) {
+        (Ok(slots), Ok(counts)) => Ok((slots, counts)),
+        _ => Err(Cause::Lengths),
+    }
+}
+
+fn lent_mut<'a>(
+    slots: &'a mut [u64],
+    counts: &'a mut [u16],
+) -> Result<(&'a mut Slots, &'a mut Counts), Cause> {
+    match (slots.try_into(), counts.try_into()) {
+        (Ok(slots), Ok(counts)) => Ok((slots, counts)),
+        _ => Err(Cause::Lengths),
+    }
+}
+
+/// The sheet in the store, or cause 2.
+fn checked(slots: &Slots, counts: &Counts) -> Result<Sheet, Cause> {
+    sheet_in(slots, counts).ok_or(Cause::NotASheet)
+}
+
+/// The length that the counts of a sheet tell.
+pub(crate) fn length(counts: &[u16]) -> usize {
+    counts.get(ROOT).copied().map_or(0, usize::from)
+}

@@ -1,0 +1,265 @@
+//! The store: where entries and counts stand, and whether a store is a sheet.
+
+use crate::sizes::{candidate_positions, Size, Spread, MAX_ENTRIES};
+use std::ops::{BitOr, Range};
+
+/// 01: "The store is two lent slices: 4,224 slots of 64 bits and 256 counts of
+/// 16 bits."
+pub const SLOTS: usize = 4224;
+pub const COUNTS: usize = 256;
+
+pub type Slots = [u64; SLOTS];
+pub type Counts = [u16; COUNTS];
+
+/// 01: "Count 0 holds the size parameter M", "Count 1 is the root range".
+pub const SIZE: usize = 0;
+pub const ROOT: usize = 1;
+
+/// The height of the largest sheet.
+const MAX_HEIGHT: usize = 7;
+
+/// A range of the tree: its number and its depth. 01: "range k has left half 2k
+/// and right half 2k+1."
+#[derive(Clone, Copy, Debug, PartialEq, Eq)]
+pub struct Node {
+    pub number: usize,
+    pub depth: usize,
+}
+
+impl Node {
+    pub const ROOT: Node = Node {
+        number: ROOT,
+        depth: 0,
+    };
+
+    pub fn left(self) -> Node {
+        Node {
+            number: 2 * self.number,
+            depth: self.depth + 1,
+        }
+    }
+
+    pub fn right(self) -> Node {
+        Node {
+            number: 2 * self.number + 1,
+            depth: self.depth + 1,
+        }
+    }
+
+    /// All ranges at one depth, from left to right.
+    fn numbers_at(depth: usize) -> Range<usize> {
+        1 << depth..2 << depth
+    }
+}
+
+/// The numbers that the size parameter of a sheet gives, worked out once.
+#[derive(Clone, Copy, Debug)]
+pub struct Shape {
+    pub m: usize,
+    pub height: usize,
+    pub leaf_slots: usize,
+    candidates: [usize; MAX_HEIGHT],
+}
+
+impl Shape {
+    /// The shape for an M of at most 2 × 1,024 − 1.
+    pub fn of(m: usize) -> Shape {
+        let size = Size::new(m);
+        Shape {
+            m,
+            height: size.height(),
+            leaf_slots: size.leaf_slots(),
+            candidates: std::array::from_fn(|depth| size.candidates(depth)),
+        }
+    }
+
+    pub fn leaves(&self) -> usize {
+        1 << self.height
+    }
+
+    /// Slots of the whole sheet, all leaves together.
+    pub fn slots(&self) -> usize {
+        self.leaf_slots * self.leaves()
+    }
+
+    /// The number of candidates of a range above the leaves.
+    pub fn candidates(&self, depth: usize) -> usize {
+        self.candidates[depth]
+    }
+
+    /// Where the candidates stand among the `n` entries of a range above the
+    /// leaves. They fit in every sheet (tested over all sizes in `sizes`).
+    pub fn candidate_positions(&self, depth: usize, n: usize) -> Range<usize> {
+        candidate_positions(n, self.candidates(depth)).expect("candidates fit")
+    }
+
+    /// The leaves under a range, from 0.
+    fn leaves_under(&self, node: Node) -> Range<usize> {
+        let levels = self.height - node.depth;
+        let first = (node.number - (1 << node.depth)) << levels;
+        first..first + (1 << levels)
+    }
+
+    /// The slots under a range.
+    pub fn slots_under(&self, node: Node) -> Range<usize> {
+        let leaves = self.leaves_under(node);
+        leaves.start * self.leaf_slots..leaves.end * self.leaf_slots
+    }
+
+    /// Each leaf under a range: the number of its first slot, and its count.
+    fn leaf_counts<'a>(
+        &self,
+        node: Node,
+        counts: &'a Counts,
+    ) -> impl Iterator<Item = (usize, usize)> + 'a {
+        let (leaves, leaf_slots) = (self.leaves(), self.leaf_slots);
+        self.leaves_under(node)
+            .map(move |leaf| (leaf * leaf_slots, usize::from(counts[leaves + leaf])))
+    }
+
+    /// Each slot that holds an entry under a range, in list order.
+    pub fn entry_slots<'a>(
+        &self,
+        node: Node,
+        counts: &'a Counts,
+    ) -> impl Iterator<Item = usize> + 'a {
+        let leaf_slots = self.leaf_slots;
+        self.leaf_counts(node, counts)
+            .flat_map(move |(start, n)| Spread::new(n, leaf_slots).map(move |slot| start + slot))
+    }
+
+    /// Copies the entries under a range into the front of `list`, in order.
+    pub fn gather(&self, node: Node, slots: &Slots, counts: &Counts, list: &mut [u64]) {
+        let mut gathered = 0;
+        for (start, n) in self.leaf_counts(node, counts) {
+            let leaf = &slots[start..start + self.leaf_slots];
+            let front = &mut list[gathered..gathered + n];
+            for (place, slot) in front.iter_mut().zip(Spread::new(n, self.leaf_slots)) {
+                *place = leaf[slot];
+            }
+            gathered += n;
+        }
+    }
+
+    /// Puts `list` into the leaves under a range, whose slots are all zero.
+    pub fn lay_out(&self, node: Node, slots: &mut Slots, counts: &Counts, list: &[u64]) {
+        let mut laid = 0;
+        for (start, n) in self.leaf_counts(node, counts) {
+            let leaf = &mut slots[start..start + self.leaf_slots];
+            let part = &list[laid..laid + n];
+            for (&entry, slot) in part.iter().zip(Spread::new(n, self.leaf_slots)) {
+                leaf[slot] = entry;
+            }
+            laid += n;
+        }
+    }
+}
+
+/// A store that is a sheet: its shape and length.
+#[derive(Clone, Copy, Debug)]
+pub struct Sheet {
+    pub shape: Shape,
+    pub n: usize,
+}
+
+/// The sheet in a store, or none where no list, size and balance entries lay
+/// out exactly this store (01, cause 2).
+pub fn sheet_in(slots: &Slots, counts: &Counts) -> Option<Sheet> {
+    let (m, n) = (usize::from(counts[SIZE]), usize::from(counts[ROOT]));
+    if n > MAX_ENTRIES || !Size::new(m).allows(n) {
+        return None;
+    }
+    let shape = Shape::of(m);
+    let sound = counts_are_sound(&shape, counts) && slots_are_sound(&shape, slots, counts);
+    sound.then_some(Sheet { shape, n })
+}
+
+/// Each range above the leaves is split at a candidate, and the counts that
+/// belong to no range are zero.
+fn counts_are_sound(shape: &Shape, counts: &Counts) -> bool {
+    let halves_are_sound = (0..shape.height).all(|depth| {
+        let c = shape.candidates(depth);
+        Node::numbers_at(depth).all(|k| {
+            let n = usize::from(counts[k]);
+            let left = usize::from(counts[2 * k]);
+            let right = usize::from(counts[2 * k + 1]);
+            // The balance entry is the one at position `left`.
+            n == left + right && candidate_positions(n, c).is_some_and(|p| p.contains(&left))
+        })
+    });
+    halves_are_sound && all_zero(&counts[2 * shape.leaves()..])
+}
+
+/// Each leaf is spread by its count, and the slots after the leaves are zero.
+fn slots_are_sound(shape: &Shape, slots: &Slots, counts: &Counts) -> bool {
+    shape
+        .leaf_counts(Node::ROOT, counts)
+        .all(|(start, n)| leaf_is_spread(&slots[start..start + shape.leaf_slots], n))
+        && all_zero(&slots[shape.slots()..])
+}
+
+/// The leaf holds `n` entries in their slots, and zero in every other slot: it
+/// has `n` entries in all, and one in each of the `n` different slots.
+fn leaf_is_spread(leaf: &[u64], n: usize) -> bool {
+    leaf.iter().filter(|&&slot| slot != 0).count() == n
+        && Spread::new(n, leaf.len()).all(|slot| leaf[slot] != 0)
+}
+
+/// Whether all values are zero. They are joined by "or" and compared once, as
+/// in a sheet all of them must be looked at anyway.
+fn all_zero<T: Copy + Default + PartialEq + BitOr<Output = T>>(part: &[T]) -> bool {
+    let joined = part.iter().fold(T::default(), |any, &value| any | value);
+    joined == T::default()
+}
+
+#[cfg(test)]
+mod tests {
+    use super::*;
+
+    #[test]
+    fn ranges_cover_the_leaves_in_order() {
+        let shape = Shape::of(65);
+        assert_eq!(shape.slots_under(Node::ROOT), 0..168);
+        let left = Node::ROOT.left();
+        let right = Node::ROOT.right();
+        assert_eq!((left.number, right.number), (2, 3));
+        assert_eq!(shape.slots_under(left), 0..84);
+        assert_eq!(shape.slots_under(right), 84..168);
+        assert_eq!(shape.slots_under(right.left().right()), 126 - 21..126);
+    }
+
+    #[test]
+    fn shapes_fit_the_store() {
+        for m in 0..=2047 {
+            let shape = Shape::of(m);
+            assert!(shape.height <= MAX_HEIGHT);
+            assert!(shape.slots() <= SLOTS && 2 * shape.leaves() <= COUNTS);
+            assert_eq!(shape.slots() as u128, Size::new(m).slots());
+        }
+    }
+
+    #[test]
+    fn a_leaf_is_spread_only_one_way() {
+        assert!(leaf_is_spread(&[5, 6, 0], 2));
+        assert!(!leaf_is_spread(&[5, 0, 6], 2));
+        assert!(!leaf_is_spread(&[5, 6, 7], 2));
+        assert!(!leaf_is_spread(&[0, 6, 0], 2));
+        assert!(!leaf_is_spread(&[5, 6, 0], 1));
+        assert!(!leaf_is_spread(&[5, 6, 7], 4));
+        assert!(leaf_is_spread(&[0, 0], 0) && leaf_is_spread(&[], 0));
+    }
+
+    #[test]
+    fn the_empty_store_is_the_only_sheet_without_entries() {
+        let (mut slots, mut counts) = ([0; SLOTS], [0; COUNTS]);
+        assert_eq!(sheet_in(&slots, &counts).unwrap().n, 0);
+        slots[0] = 1;
+        assert!(sheet_in(&slots, &counts).is_none());
+        slots[0] = 0;
+        counts[SIZE] = 1;
+        assert!(sheet_in(&slots, &counts).is_none());
+        counts[SIZE] = 0;
+        counts[255] = 1;
+        assert!(sheet_in(&slots, &counts).is_none());
+    }
+}

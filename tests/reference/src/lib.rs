@@ -1,0 +1,23 @@
+//! The packed finishing sheet: a second implementation, to compare the proved
+//! one with. The law is the paper `01-scope.md`, cited here as "01"; every rule
+//! is written as its sentence reads, not in a shortened form.
+//!
+//! - [`coins`]: draws, from a tape of words or from given faces
+//! - [`sizes`]: what the size parameter M and the length N decide
+//! - [`layout`]: where entries and counts stand in the store, and the check
+//! - [`rules`]: the draws of insert and delete, and the counts they lead to
+//! - [`calls`]: the six calls on lent slices, with causes 1 to 7
+//! - [`frames`]: the lines of the program, with causes 8 and 9
+//! - [`shares`]: histories, their courses and exact tables of shares
+//! - [`random`]: a small seeded generator for tests and benchmarks
+
+#![forbid(unsafe_code)]
+
+pub mod calls;
+pub mod coins;
+pub mod frames;
+pub mod layout;
+pub mod random;
+pub mod rules;
+pub mod shares;
+pub mod sizes;

@@ -1,0 +1,358 @@
+//! Histories, courses and exact tables of shares (01, "Histories and shares").
+
+use crate::calls::{self, Answer};
+use crate::coins::{Source, Undecided};
+use crate::layout::{Counts, Slots, COUNTS, SLOTS};
+use std::collections::BTreeMap;
+use std::ops::{Add, Mul};
+
+/// A fraction of whole numbers in lowest terms.
+#[derive(Clone, Copy, Debug, PartialEq, Eq, PartialOrd, Ord)]
+pub struct Share {
+    numerator: u128,
+    denominator: u128,
+}
+
+impl Share {
+    pub const ZERO: Share = Share {
+        numerator: 0,
+        denominator: 1,
+    };
+    pub const ONE: Share = Share {
+        numerator: 1,
+        denominator: 1,
+    };
+
+    /// `numerator` / `denominator`, where the latter is not 0.
+    pub fn new(numerator: u128, denominator: u128) -> Share {
+        let divisor = gcd(numerator, denominator);
+        Share {
+            numerator: numerator / divisor,
+            denominator: denominator / divisor,
+        }
+    }
+
+    pub fn numerator(self) -> u128 {
+        self.numerator
+    }
+
+    pub fn denominator(self) -> u128 {
+        self.denominator
+    }
+}
+
+impl Add for Share {
+    type Output = Share;
+
+    fn add(self, other: Share) -> Share {
+        let divisor = gcd(self.denominator, other.denominator);
+        let (own_scale, other_scale) = (other.denominator / divisor, self.denominator / divisor);
+        let left = product(self.numerator, own_scale);
+        let right = product(other.numerator, other_scale);
+        let numerator = left.checked_add(right).expect("shares stay small");
+        Share::new(numerator, product(self.denominator, own_scale))
+    }
+}
+
+impl Mul for Share {
+    type Output = Share;
+
+    fn mul(self, other: Share) -> Share {
+        let first = Share::new(self.numerator, other.denominator);
+        let second = Share::new(other.numerator, self.denominator);
+        Share {
+            numerator: product(first.numerator, second.numerator),
+            denominator: product(first.denominator, second.denominator),
+        }
+    }
+}
+
+impl std::iter::Sum for Share {
+    fn sum<I: Iterator<Item = Share>>(shares: I) -> Share {
+        shares.fold(Share::ZERO, Add::add)
+    }
+}
+
+fn product(a: u128, b: u128) -> u128 {
+    a.checked_mul(b).expect("shares stay small")
+}
+
+fn gcd(mut a: u128, mut b: u128) -> u128 {
+    while b != 0 {
+        (a, b) = (b, a % b);
+    }
+    a
+}
+
+/// A course: one possible run of faces for the draws of a history, as far as
+/// the rules have asked for them. A draw that no face was chosen for yet gets
+/// face 0; [`Course::advance`] then leads to the next course in order.
+#[derive(Clone, Debug, Default)]
+pub struct Course {
+    draws: Vec<Draw>,
+    taken: usize,
+}
+
+#[derive(Clone, Copy, Debug)]
+struct Draw {
+    face: u64,
+    among: u64,
+}
+
+impl Course {
+    /// The course whose faces are all 0.
+    pub fn first() -> Self {
+        Course::default()
+    }
+
+    /// The faces drawn, in order.
+    pub fn faces(&self) -> impl Iterator<Item = u64> + '_ {
+        self.draws.iter().map(|draw| draw.face)
+    }
+
+    /// "Its share is 1 over the product of those numbers; with no draw it is 1."
+    pub fn share(&self) -> Share {
+        let among = self.draws.iter().map(|draw| u128::from(draw.among));
+        Share::new(1, among.fold(1, product))
+    }
+
+    /// Moves to the next course, to be drawn from its start; false after the
+    /// last. The rules must have drawn the course to its end before.
+    pub fn advance(&mut self) -> bool {
+        self.taken = 0;
+        while let Some(last) = self.draws.last_mut() {
+            last.face += 1;
+            if last.face < last.among {
+                return true;
+            }
+            self.draws.pop();
+        }
+        false
+    }
+}
+
+impl Source for Course {
+    fn draw(&mut self, m: u64) -> Result<u64, Undecided> {
+        if m == 0 {
+            return Err(Undecided);
+        }
+        if self.taken == self.draws.len() {
+            self.draws.push(Draw { face: 0, among: m });
+        }
+        let draw = self.draws[self.taken];
+        assert_eq!(draw.among, m, "the same faces lead to the same draws");
+        self.taken += 1;
+        Ok(draw.face)
+    }
+}
+
+/// Calls `act` once for each course and gives it the course to draw from; what
+/// it returns is kept with the share of the course.
+pub fn every_course<T>(mut act: impl FnMut(&mut Course) -> T) -> Vec<(T, Share)> {
+    let mut results = Vec::new();
+    let mut course = Course::first();
+    loop {
+        let result = act(&mut course);
+        results.push((result, course.share()));
+        if !course.advance() {
+            return results;
+        }
+    }
+}
+
+/// One of the six calls, with its arguments, tapes apart.
+#[derive(Clone, Copy, Debug, PartialEq, Eq)]
+pub enum Call {
+    Clear,
+    Insert {
+        rank: usize,
+        entry: u64,
+    },
+    Delete {
+        rank: usize,
+    },
+    Read {
+        first: usize,
+        last: usize,
+        output: usize,
+    },
+    Place {
+        rank: usize,
+    },
+    Check,
+}
+
+/// A store of the right lengths.
+#[derive(Clone, Debug, PartialEq, Eq)]
+pub struct Store {
+    pub slots: Box<Slots>,
+    pub counts: Box<Counts>,
+}
+
+impl Store {
+    /// A cleared store.
+    pub fn cleared() -> Self {
+        Store {
+            slots: Box::new([0; SLOTS]),
+            counts: Box::new([0; COUNTS]),
+        }
+    }
+
+    /// Runs one call by faces: its cause number, or 0 where accepted.
+    pub fn call<S: Source>(&mut self, call: Call, source: &mut S) -> u8 {
+        let (slots, counts) = (&mut self.slots[..], &mut self.counts[..]);
+        let number = |answer: Answer| answer.number();
+        match call {
+            Call::Clear => number(calls::clear(slots, counts)),
+            Call::Insert { rank, entry } => calls::insert_from(slots, counts, rank, entry, source)
+                .map_or_else(|c| c.number(), |_| 0),
+            Call::Delete { rank } => {
+                calls::delete_from(slots, counts, rank, source).map_or_else(|c| c.number(), |_| 0)
+            }
+            Call::Read {
+                first,
+                last,
+                output,
+            } => number(calls::read(
+                slots,
+                counts,
+                first,
+                last,
+                &mut vec![0; output],
+            )),
+            Call::Place { rank } => number(calls::place(slots, counts, rank)),
+            Call::Check => number(calls::check(slots, counts)),
+        }
+    }
+
+    /// Every slot and every count, as a key for tables.
+    pub fn sheet(&self) -> SheetKey {
+        SheetKey {
+            slots: without_last_zeros(&self.slots[..]),
+            counts: without_last_zeros(&self.counts[..]),
+        }
+    }
+}
+
+/// All contents of a store; the zeros at the ends of its slices are left out.
+#[derive(Clone, Debug, PartialEq, Eq, PartialOrd, Ord)]
+pub struct SheetKey {
+    counts: Vec<u16>,
+    slots: Vec<u64>,
+}
+
+impl SheetKey {
+    /// The store with these contents.
+    pub fn store(&self) -> Store {
+        let mut store = Store::cleared();
+        store.slots[..self.slots.len()].copy_from_slice(&self.slots);
+        store.counts[..self.counts.len()].copy_from_slice(&self.counts);
+        store
+    }
+}
+
+fn without_last_zeros<T: Copy + Default + PartialEq>(values: &[T]) -> Vec<T> {
+    let used = values.iter().rposition(|&value| value != T::default());
+    values[..used.map_or(0, |last| last + 1)].to_vec()
+}
+
+/// A table of shares. A sheet that is not in it has the share 0.
+pub type Table = BTreeMap<SheetKey, Share>;
+
+/// The table of a history as it is defined: all its courses, each run from the
+/// cleared store. The courses must be few.
+pub fn shares_by_courses(history: &[Call]) -> Table {
+    let ends = every_course(|course| {
+        let mut store = Store::cleared();
+        for &call in history {
+            store.call(call, course);
+        }
+        store.sheet()
+    });
+    table_of(ends)
+}
+
+/// The same table worked out call by call: courses that have led to the same
+/// sheet go on together. This holds because the draws of a call depend on the
+/// sheet and its arguments alone.
+pub fn shares_by_calls(history: &[Call]) -> Table {
+    let start = Table::from([(Store::cleared().sheet(), Share::ONE)]);
+    history
+        .iter()
+        .fold(start, |table, &call| after_call(&table, call))
+}
+
+/// The table after one more call.
+pub fn after_call(table: &Table, call: Call) -> Table {
+    let ends = table.iter().flat_map(|(sheet, &share)| {
+        let start = sheet.store();
+        let ends = every_course(|course| {
+            let mut store = start.clone();
+            store.call(call, course);
+            store.sheet()
+        });
+        ends.into_iter()
+            .map(move |(end, course)| (end, share * course))
+    });
+    table_of(ends)
+}
+
+/// Adds up the shares of equal sheets.
+pub fn table_of(ends: impl IntoIterator<Item = (SheetKey, Share)>) -> Table {
+    let mut table = Table::new();
+    for (sheet, share) in ends {
+        let sum = table.entry(sheet).or_insert(Share::ZERO);
+        *sum = *sum + share;
+    }
+    table
+}
+
+#[cfg(test)]
+mod tests {
+    use super::*;
+
+    #[test]
+    fn shares_are_in_lowest_terms() {
+        assert_eq!(Share::new(6, 8), Share::new(3, 4));
+        assert_eq!(Share::new(1, 6) + Share::new(1, 3), Share::new(1, 2));
+        assert_eq!(Share::new(2, 3) * Share::new(3, 4), Share::new(1, 2));
+        assert_eq!(Share::ZERO + Share::ONE, Share::ONE);
+        assert_eq!(Share::ZERO * Share::new(1, 7), Share::ZERO);
+        let half = Share::new(5, 10);
+        assert_eq!((half.numerator(), half.denominator()), (1, 2));
+    }
+
+    /// Draws among 2; on face 1 also among 3; then among 1.
+    #[test]
+    fn every_course_comes_once() {
+        let courses = every_course(|course| {
+            if course.draw(2).unwrap() == 1 {
+                course.draw(3).unwrap();
+            }
+            course.draw(1).unwrap();
+            course.faces().collect::<Vec<u64>>()
+        });
+        let expected = [
+            (vec![0, 0], Share::new(1, 2)),
+            (vec![1, 0, 0], Share::new(1, 6)),
+            (vec![1, 1, 0], Share::new(1, 6)),
+            (vec![1, 2, 0], Share::new(1, 6)),
+        ];
+        assert_eq!(courses, expected);
+    }
+
+    #[test]
+    fn no_draw_is_one_course() {
+        assert_eq!(every_course(|_| ()), [((), Share::ONE)]);
+        let table = shares_by_courses(&[]);
+        assert_eq!(table, Table::from([(Store::cleared().sheet(), Share::ONE)]));
+    }
+
+    #[test]
+    fn a_sheet_gives_its_store_back() {
+        let mut store = Store::cleared();
+        store.slots[4223] = 5;
+        store.counts[7] = 3;
+        assert_eq!(store.sheet().store(), store);
+    }
+}

@@ -1,0 +1,249 @@
+//! Causes 1 to 7 (01, "Causes and numbers"): each by itself, their order, and
+//! that a refused call changes nothing.
+
+mod common;
+
+use common::*;
+use reference::calls::{self, Answer, Cause};
+use reference::layout::{COUNTS, SLOTS};
+use reference::random::SplitMix64;
+use reference::shares::Store;
+
+/// What the six calls return on these slices with these arguments; only clear
+/// may change them, and it comes last.
+fn all_calls(slots: &mut [u64], counts: &mut [u16], rank: usize, entry: u64) -> [u8; 6] {
+    let mut output = [0x55; 2];
+    let answers = [
+        calls::insert(slots, counts, rank, entry, &[]),
+        calls::delete(slots, counts, rank, &[]),
+        calls::read(slots, counts, rank, rank + 5, &mut output),
+        calls::place(slots, counts, rank),
+        calls::check(slots, counts),
+        calls::clear(slots, counts),
+    ];
+    for answer in answers {
+        if answer.number() != 0 {
+            assert_eq!(answer.values(), [0, 0]);
+        }
+    }
+    assert_eq!(output, [0x55; 2]);
+    answers.map(Answer::number)
+}
+
+#[test]
+fn cause_1_lengths() {
+    for (slots, counts) in [
+        (SLOTS - 1, COUNTS),
+        (SLOTS + 1, COUNTS),
+        (SLOTS, COUNTS - 1),
+        (SLOTS, COUNTS + 1),
+        (0, COUNTS),
+        (SLOTS, 0),
+        (0, 0),
+        (COUNTS, SLOTS),
+    ] {
+        let (mut slots, mut counts) = slices(slots, counts);
+        // Not a sheet, entry zero, rank too large: cause 1 comes first.
+        slots.fill(7);
+        counts.fill(7);
+        let before = (slots.clone(), counts.clone());
+        assert_eq!(all_calls(&mut slots, &mut counts, 9, 0), [1; 6]);
+        assert_eq!((slots, counts), before);
+    }
+}
+
+#[test]
+fn cause_2_not_a_sheet() {
+    let (mut slots, mut counts) = full_lengths();
+    slots[100] = 7;
+    // Clear makes any contents the empty sheet.
+    assert_eq!(all_calls(&mut slots, &mut counts, 9, 0), [2, 2, 2, 2, 2, 0]);
+    assert_eq!((slots, counts), full_lengths());
+}
+
+#[test]
+fn cause_2_leaves_the_slices() {
+    let (mut slots, mut counts) = full_lengths();
+    slots.fill(u64::MAX);
+    counts.fill(u16::MAX);
+    let before = (slots.clone(), counts.clone());
+    let not_a_sheet = Answer::Refused(Cause::NotASheet);
+    assert_eq!(
+        calls::insert(&mut slots, &mut counts, 0, 1, &[0; 9]),
+        not_a_sheet
+    );
+    assert_eq!(
+        calls::delete(&mut slots, &mut counts, 0, &[0; 9]),
+        not_a_sheet
+    );
+    assert_eq!((slots, counts), before);
+}
+
+#[test]
+fn cause_3_entry_zero() {
+    let mut store = sheet_of(1024, &mut SplitMix64::new(3));
+    let before = store.clone();
+    // Before cause 4 and cause 5.
+    for rank in [0, 1024, 1025, usize::MAX] {
+        let answer = insert(&mut store, rank, 0, &[]);
+        assert_eq!(answer, Answer::Refused(Cause::EntryZero));
+    }
+    assert_eq!(store, before);
+}
+
+#[test]
+fn cause_4_rank() {
+    for n in [0, 1, 5, 80, 1024] {
+        let mut store = sheet_of(n, &mut SplitMix64::new(4));
+        let before = store.clone();
+        let refused = Answer::Refused(Cause::Rank);
+        for beyond in [n + 1, n + 100, usize::MAX] {
+            assert_eq!(insert(&mut store, beyond, 7, &[]), refused);
+        }
+        for beyond in [n, n + 1, usize::MAX] {
+            assert_eq!(delete(&mut store, beyond, &[]), refused);
+            let (slots, counts) = (&store.slots[..], &store.counts[..]);
+            assert_eq!(calls::place(slots, counts, beyond), refused);
+            // Before cause 6: the output is too short as well.
+            assert_eq!(calls::read(slots, counts, 0, beyond, &mut []), refused);
+            assert_eq!(calls::read(slots, counts, beyond, beyond, &mut []), refused);
+            assert_eq!(calls::read(slots, counts, beyond, 0, &mut [0; 9]), refused);
+        }
+        let (slots, counts) = (&store.slots[..], &store.counts[..]);
+        assert_eq!(calls::read(slots, counts, 4, 3, &mut [0; 9]), refused);
+        assert_eq!(store, before);
+    }
+}
+
+#[test]
+fn cause_5_full() {
+    let mut store = sheet_of(1024, &mut SplitMix64::new(5));
+    let before = store.clone();
+    // Before cause 7, and with any tape.
+    for tape in [&[][..], &[1, 2, 3], &[0; 500]] {
+        for rank in [0, 500, 1024] {
+            let answer = insert(&mut store, rank, 7, tape);
+            assert_eq!(answer, Answer::Refused(Cause::Full));
+        }
+    }
+    assert_eq!(store, before);
+}
+
+#[test]
+fn cause_6_output() {
+    let store = sheet_of(70, &mut SplitMix64::new(6));
+    let (slots, counts) = (&store.slots[..], &store.counts[..]);
+    for (first, last) in [(0, 0), (0, 69), (30, 40), (69, 69)] {
+        let entries = last - first + 1;
+        let mut output = vec![0x77; entries - 1];
+        let answer = calls::read(slots, counts, first, last, &mut output);
+        assert_eq!(answer, Answer::Refused(Cause::Output));
+        assert!(output.iter().all(|&entry| entry == 0x77));
+
+        // A longer output keeps its rest.
+        for rest in [0, 1, 30] {
+            let mut output = vec![0x77; entries + rest];
+            let answer = calls::read(slots, counts, first, last, &mut output);
+            assert_eq!(answer, Answer::Read { entries });
+            let expected: Vec<u64> = (first as u64 + 1..=last as u64 + 1).collect();
+            assert_eq!(output[..entries], expected);
+            assert_eq!(output[entries..], vec![0x77; rest]);
+        }
+    }
+}
+
+#[test]
+fn cause_7_tape_ends() {
+    let mut store = lay_out(&[1, 2, 3], 5, |_, _, _| 0);
+    let before = store.clone();
+    let refused = Answer::Refused(Cause::TapeEnds);
+    // Insert: draw among 4, and on face 0 among 2. Delete: M ≥ 4 draws among 4.
+    assert_eq!(insert(&mut store, 0, 9, &[]), refused);
+    assert_eq!(insert(&mut store, 0, 9, &[4]), refused);
+    assert_eq!(delete(&mut store, 0, &[]), refused);
+    assert_eq!(store, before);
+    let answer = insert(&mut store, 0, 9, &[4, 3, 8]);
+    assert_eq!(answer, Answer::Changed { n: 4, words: 2 });
+    assert_eq!(store, lay_out(&[9, 1, 2, 3], 7, |_, _, _| 0));
+}
+
+#[test]
+fn accepted_answers() {
+    let mut store = sheet_of(70, &mut SplitMix64::new(7));
+    let (slots, counts) = (&mut store.slots[..], &mut store.counts[..]);
+    let check = calls::check(slots, counts);
+    assert_eq!((check.number(), check.values()), (0, [70, 0]));
+    for rank in 0..70 {
+        let place = calls::place(slots, counts, rank);
+        assert_eq!((place.number(), place.values()), (0, [rank + 1, rank + 1]));
+    }
+    let read = calls::read(slots, counts, 3, 5, &mut [0; 3]);
+    assert_eq!((read.number(), read.values()), (0, [3, 0]));
+    let clear = calls::clear(slots, counts);
+    assert_eq!((clear.number(), clear.values()), (0, [0, 0]));
+    assert_eq!(store, Store::cleared());
+}
+
+#[test]
+fn numbers_of_the_causes() {
+    let causes = [
+        Cause::Lengths,
+        Cause::NotASheet,
+        Cause::EntryZero,
+        Cause::Rank,
+        Cause::Full,
+        Cause::Output,
+        Cause::TapeEnds,
+        Cause::NoFrame,
+        Cause::TapeFull,
+    ];
+    assert_eq!(causes.map(Cause::number), [1, 2, 3, 4, 5, 6, 7, 8, 9]);
+}
+
+/// Every store one change away from a sheet is judged as its layout says.
+#[test]
+fn cause_2_on_damaged_sheets() {
+    let mut random = SplitMix64::new(8);
+    let mut sheets = 0;
+    for n in [0, 1, 2, 3, 33, 40, 64, 65, 100, 700, 1024] {
+        let sound = sheet_of(n, &mut random);
+        assert!(is_laid_out(&sound));
+        for _ in 0..300 {
+            let mut store = sound.clone();
+            damage(&mut store, &mut random);
+            let found = check(&store).number() == 0;
+            assert_eq!(found, is_laid_out(&store));
+            sheets += usize::from(found);
+        }
+    }
+    // Some changes lead to another sheet, as when one entry takes a new value.
+    assert!(sheets > 100);
+}
+
+/// One or two small changes of a store.
+fn damage(store: &mut Store, random: &mut SplitMix64) {
+    let slots = (4 * n(store)).clamp(4, SLOTS);
+    let counts = (n(store) / 2).clamp(4, COUNTS);
+    for _ in 0..=random.below(2) {
+        match random.below(6) {
+            0 => store.slots[random.below(slots)] = 0,
+            1 => store.slots[random.below(slots)] = random.entry(),
+            2 => {
+                let slot = random.below(slots - 1);
+                store.slots.swap(slot, slot + 1);
+            }
+            3 => store.counts[random.below(counts)] ^= 1,
+            4 => store.counts[0] = (store.counts[0] + random.below(5) as u16).saturating_sub(2),
+            _ => move_a_leaf_entry(store, random),
+        }
+    }
+}
+
+/// Moves one of the counted entries from a range to the range beside it.
+fn move_a_leaf_entry(store: &mut Store, random: &mut SplitMix64) {
+    let pair = 2 * (1 + random.below(COUNTS / 2 - 1));
+    if store.counts[pair] > 0 {
+        store.counts[pair] -= 1;
+        store.counts[pair + 1] += 1;
+    }
+}

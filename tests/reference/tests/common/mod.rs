@@ -1,0 +1,368 @@
+//! What the tests hold the calls against: the rules over whole lists, with each
+//! entry named once and every sheet laid out from nothing.
+#![allow(dead_code)]
+
+use reference::calls::{self, Answer};
+use reference::coins::{Source, Undecided};
+use reference::layout::{COUNTS, SLOTS};
+use reference::random::SplitMix64;
+use reference::shares::Store;
+use std::collections::BTreeMap;
+
+pub fn height(m: usize) -> usize {
+    match m {
+        0..=64 => 0,
+        _ => (0..16).filter(|h| g(m) << h <= m).max().unwrap(),
+    }
+}
+
+fn g(m: usize) -> usize {
+    format!("{:b}", m - 1).len()
+}
+
+fn leaf_slots(m: usize) -> usize {
+    match m {
+        0..=64 => m,
+        _ => 3 * g(m),
+    }
+}
+
+pub fn candidates(m: usize, depth: usize) -> usize {
+    let unit = (4 * g(m)) << depth;
+    m.div_ceil(unit)
+}
+
+/// The number, from 1, of the first of `c` candidates among `n` entries.
+fn first_candidate(n: usize, c: usize) -> usize {
+    assert!(c <= n, "candidates fit");
+    1 + n.div_ceil(2) - c.div_ceil(2)
+}
+
+/// Lays out a list by size and balance entries. `balance` is given the range,
+/// its length and its number of candidates, and tells which candidate, from 0,
+/// is the balance entry.
+pub fn lay_out(
+    list: &[u64],
+    m: usize,
+    mut balance: impl FnMut(usize, usize, usize) -> usize,
+) -> Store {
+    let mut store = Store::cleared();
+    store.counts[0] = m as u16;
+    lay_out_range(&mut store, m, 1, 0, list, &mut balance);
+    store
+}
+
+fn lay_out_range(
+    store: &mut Store,
+    m: usize,
+    range: usize,
+    depth: usize,
+    list: &[u64],
+    balance: &mut impl FnMut(usize, usize, usize) -> usize,
+) {
+    let n = list.len();
+    store.counts[range] = n as u16;
+    if depth == height(m) {
+        let slots = leaf_slots(m);
+        assert!(n <= slots, "leaf {range} of M {m} holds {n}");
+        let start = (range - (1 << depth)) * slots;
+        for (k, &entry) in list.iter().enumerate() {
+            store.slots[start + k * slots / n] = entry;
+        }
+        return;
+    }
+    let c = candidates(m, depth);
+    let chosen = balance(range, n, c);
+    assert!(chosen < c);
+    let (left, right) = list.split_at(first_candidate(n, c) - 1 + chosen);
+    lay_out_range(store, m, 2 * range, depth + 1, left, balance);
+    lay_out_range(store, m, 2 * range + 1, depth + 1, right, balance);
+}
+
+/// Whether some list, size and balance entries lay out exactly this store.
+/// Only the entries in slot order, count 0 and the left halves come in question.
+pub fn is_laid_out(store: &Store) -> bool {
+    let list: Vec<u64> = store.slots.iter().copied().filter(|&e| e != 0).collect();
+    let (m, n) = (usize::from(store.counts[0]), list.len());
+    let allowed = if n == 0 {
+        m == 0
+    } else {
+        (n..2 * n).contains(&m)
+    };
+    if !allowed || n > 1024 {
+        return false;
+    }
+    let mut all_are_candidates = true;
+    let laid_out = lay_out(&list, m, |range, n, c| {
+        let left = usize::from(store.counts[2 * range]);
+        let chosen = (left + 1).wrapping_sub(first_candidate(n, c));
+        all_are_candidates &= chosen < c;
+        chosen.min(c - 1)
+    });
+    all_are_candidates && laid_out == *store
+}
+
+/// An entry with a name of its own.
+#[derive(Clone, Copy, Debug, PartialEq, Eq)]
+struct Named {
+    name: u64,
+    entry: u64,
+}
+
+/// A sheet as the rules speak of it: the list, M, and the name of the balance
+/// entry of each range above the leaves.
+#[derive(Clone, Debug, Default)]
+pub struct Model {
+    m: usize,
+    list: Vec<Named>,
+    balance: BTreeMap<usize, u64>,
+    names: u64,
+}
+
+impl Model {
+    pub fn n(&self) -> usize {
+        self.list.len()
+    }
+
+    pub fn m(&self) -> usize {
+        self.m
+    }
+
+    pub fn list(&self) -> Vec<u64> {
+        self.list.iter().map(|named| named.entry).collect()
+    }
+
+    pub fn clear(&mut self) {
+        *self = Model::default();
+    }
+
+    pub fn insert<S: Source>(
+        &mut self,
+        rank: usize,
+        entry: u64,
+        source: &mut S,
+    ) -> Result<(), Undecided> {
+        let n = self.n() as u64;
+        let anew = n == 0 || self.m == self.n() || source.draw(n + 1)? == 0;
+        let m = match (anew, n) {
+            (false, _) => None,
+            (true, 0) => Some(1),
+            (true, _) => Some(2 * n + source.draw(2)?),
+        };
+        let before = self.list.clone();
+        let name = self.names;
+        self.names += 1;
+        self.list.insert(rank, Named { name, entry });
+        self.follow(m, before, source)
+    }
+
+    pub fn delete<S: Source>(&mut self, rank: usize, source: &mut S) -> Result<(), Undecided> {
+        let n = self.n() as u64;
+        let m = if n == 1 {
+            Some(0)
+        } else if self.m as u64 >= 2 * n - 2 {
+            let f = source.draw(2 * n - 2)?;
+            Some(if f + 2 < n { n + f } else { n - 1 })
+        } else {
+            None
+        };
+        let before = self.list.clone();
+        self.list.remove(rank);
+        self.follow(m, before, source)
+    }
+
+    fn follow<S: Source>(
+        &mut self,
+        m: Option<u64>,
+        before: Vec<Named>,
+        source: &mut S,
+    ) -> Result<(), Undecided> {
+        let after = self.list.clone();
+        match m {
+            Some(m) => {
+                self.m = m as usize;
+                self.balance.clear();
+                self.rebuild(1, 0, &after, source)
+            }
+            None => self.walk(1, 0, &before, &after, source),
+        }
+    }
+
+    fn rebuild<S: Source>(
+        &mut self,
+        range: usize,
+        depth: usize,
+        list: &[Named],
+        source: &mut S,
+    ) -> Result<(), Undecided> {
+        if depth < height(self.m) {
+            let among = self.candidates_of(depth, list);
+            let face = source.draw(among.len() as u64)?;
+            self.set_balance(range, depth, list, among[face as usize], source)?;
+        }
+        Ok(())
+    }
+
+    fn set_balance<S: Source>(
+        &mut self,
+        range: usize,
+        depth: usize,
+        list: &[Named],
+        name: u64,
+        source: &mut S,
+    ) -> Result<(), Undecided> {
+        self.balance.insert(range, name);
+        let (left, right) = list.split_at(position(list, name));
+        self.rebuild(2 * range, depth + 1, left, source)?;
+        self.rebuild(2 * range + 1, depth + 1, right, source)
+    }
+
+    fn walk<S: Source>(
+        &mut self,
+        range: usize,
+        depth: usize,
+        before: &[Named],
+        after: &[Named],
+        source: &mut S,
+    ) -> Result<(), Undecided> {
+        if depth == height(self.m) {
+            return Ok(());
+        }
+        let old = self.candidates_of(depth, before);
+        let new = self.candidates_of(depth, after);
+        let leaving: Vec<u64> = only_in(&old, &new);
+        let entering: Vec<u64> = only_in(&new, &old);
+        assert!(leaving.len() == entering.len() && leaving.len() <= 1);
+        let balance = self.balance[&range];
+        if leaving.contains(&balance) {
+            return self.rebuild(range, depth, after, source);
+        }
+        if !leaving.is_empty() && source.draw(old.len() as u64)? == 0 {
+            return self.set_balance(range, depth, after, entering[0], source);
+        }
+        let (left, right) = before.split_at(position(before, balance));
+        let (new_left, new_right) = after.split_at(position(after, balance));
+        if left != new_left {
+            assert_eq!(right, new_right);
+            self.walk(2 * range, depth + 1, left, new_left, source)
+        } else {
+            self.walk(2 * range + 1, depth + 1, right, new_right, source)
+        }
+    }
+
+    /// The names of the candidates of a range.
+    fn candidates_of(&self, depth: usize, list: &[Named]) -> Vec<u64> {
+        let c = candidates(self.m, depth);
+        let first = first_candidate(list.len(), c);
+        list[first - 1..first - 1 + c]
+            .iter()
+            .map(|named| named.name)
+            .collect()
+    }
+
+    /// The store of this sheet.
+    pub fn store(&self) -> Store {
+        let mut store = Store::cleared();
+        store.counts[0] = self.m as u16;
+        self.write(&mut store, 1, 0, &self.list);
+        store
+    }
+
+    fn write(&self, store: &mut Store, range: usize, depth: usize, list: &[Named]) {
+        store.counts[range] = list.len() as u16;
+        if depth == height(self.m) {
+            let slots = leaf_slots(self.m);
+            let start = (range - (1 << depth)) * slots;
+            for (k, named) in list.iter().enumerate() {
+                store.slots[start + k * slots / list.len()] = named.entry;
+            }
+            return;
+        }
+        let (left, right) = list.split_at(position(list, self.balance[&range]));
+        self.write(store, 2 * range, depth + 1, left);
+        self.write(store, 2 * range + 1, depth + 1, right);
+    }
+}
+
+fn position(list: &[Named], name: u64) -> usize {
+    list.iter().position(|named| named.name == name).unwrap()
+}
+
+fn only_in(these: &[u64], those: &[u64]) -> Vec<u64> {
+    let only = these.iter().filter(|name| !those.contains(name));
+    only.copied().collect()
+}
+
+/// Random words, a part of them at the top, where most draws pass them over.
+pub fn words(random: &mut SplitMix64, number: usize) -> Vec<u32> {
+    let mut words = vec![0; number];
+    random.fill(&mut words);
+    for word in &mut words {
+        if random.below(6) == 0 {
+            *word = u32::MAX - random.below(2) as u32;
+        }
+    }
+    words
+}
+
+/// A sheet of the list 1, 2, …, `n`, made by inserts at random ranks.
+pub fn sheet_of(n: usize, random: &mut SplitMix64) -> Store {
+    let mut store = Store::cleared();
+    let mut order: Vec<u64> = (1..=n as u64).collect();
+    for i in (1..n).rev() {
+        order.swap(i, random.below(i + 1));
+    }
+    for (done, &entry) in order.iter().enumerate() {
+        let rank = order[..done].iter().filter(|&&e| e < entry).count();
+        let tape = words(random, 1024);
+        let answer = insert(&mut store, rank, entry, &tape);
+        assert_eq!(answer.number(), 0);
+    }
+    store
+}
+
+pub fn insert(store: &mut Store, rank: usize, entry: u64, tape: &[u32]) -> Answer {
+    calls::insert(
+        &mut store.slots[..],
+        &mut store.counts[..],
+        rank,
+        entry,
+        tape,
+    )
+}
+
+pub fn delete(store: &mut Store, rank: usize, tape: &[u32]) -> Answer {
+    calls::delete(&mut store.slots[..], &mut store.counts[..], rank, tape)
+}
+
+pub fn check(store: &Store) -> Answer {
+    calls::check(&store.slots[..], &store.counts[..])
+}
+
+pub fn m(store: &Store) -> usize {
+    store.counts[0].into()
+}
+
+pub fn n(store: &Store) -> usize {
+    store.counts[1].into()
+}
+
+/// The whole list, through read.
+pub fn list(store: &Store) -> Vec<u64> {
+    let n = n(store);
+    let mut list = vec![0; n];
+    if n > 0 {
+        let answer = calls::read(&store.slots[..], &store.counts[..], 0, n - 1, &mut list);
+        assert_eq!(answer, Answer::Read { entries: n });
+    }
+    list
+}
+
+/// Slices of any lengths, for calls that must refuse them.
+pub fn slices(slots: usize, counts: usize) -> (Vec<u64>, Vec<u16>) {
+    (vec![0; slots], vec![0; counts])
+}
+
+pub fn full_lengths() -> (Vec<u64>, Vec<u16>) {
+    slices(SLOTS, COUNTS)
+}
