@@ -1,0 +1,31 @@
+-- When a call is handed over. Assumes nothing.
+use mathlib.Core.Path.{_≡_, sym}
+use mathlib.Core.List.{List}
+use Prim.Native.Nat.{ℕ, _≤_, _<_}
+use lib.ListN.{length}
+use Rattle.base.specs.CaseLaws.{ifLt-yes, ifLt-no}
+use Rattle.packed_sheet.specs.declared.Returned.{Returned}
+use Rattle.packed_sheet.specs.declared.Answer.{Answer}
+use Rattle.packed_sheet.specs.Call.{Call, returned, clubs}
+use Rattle.packed_sheet.specs.Outcome.{outcome}
+use Rattle.packed_sheet.specs.Opening.{storeOf, left}
+use Rattle.sheet_c.specs.Handed.{filled, handedBy, handed}
+
+module _ (call : Call) (tape slots counts output answer : List ℕ) where
+  -- an answer slice that is too short
+  pub handed-short : length answer < 2
+      → record { number = 255; store = storeOf slots counts; output = output; answer = answer }
+      ≡ handed call tape (storeOf slots counts) output answer
+  unfolding handed
+  handed-short l = sym (ifLt-yes (length answer) 2 _ _ l)
+
+  -- an answer slice with room
+  pub handed-done : 2 ≤ length answer → (given : Answer) (slots′ counts′ output′ : List ℕ)
+      → left given slots′ counts′ output′ ≡ outcome clubs call tape (storeOf slots counts) output
+      → (back : Returned) → back ≡ returned given
+      → (r : ℕ) (answer′ : List ℕ) → (r ≡ back .number) × (answer′ ≡ filled back answer)
+      → record { number = r; store = storeOf slots′ counts′; output = output′; answer = answer′ }
+      ≡ handed call tape (storeOf slots counts) output answer
+  unfolding handed handedBy
+  handed-done l given slots′ counts′ output′ o back b r answer′ h =
+      rw (h .0, h .1, ifLt-no (length answer) 2 _ (handedBy (outcome clubs call tape (storeOf slots counts) output) answer) l, ← o, b)

@@ -1,0 +1,3 @@
+-- The six calls as C programs make them.
+pub mod Handed
+pub mod HandedLaws

@@ -1,0 +1,125 @@
+// The six calls for programs in C: the number of the cause is returned, and the two values stand in an answer slice.
+ghost use mathlib.Core.Path.{_≡_};
+ghost use mathlib.Core.List.{[]};
+ghost use Prim.Native.Nat.{_≤_};
+ghost use lib.ListN.{length};
+ghost use Rattle.packed_sheet.specs.Call as call;
+ghost use Rattle.packed_sheet.specs.Opening.{storeOf};
+ghost use Rattle.sheet_c.specs.Handed.{filled, handed};
+use packed_sheet::Returned;
+
+// Puts the two values at the front of the answer slice, and gives the number.
+fn hand(back: Returned, answer: &mut [u64]) -> usize
+    requires { ⌜ 2 ≤ length (now answer) ⌝ }
+    ensures { λ r. ⌜ (r ≡ back .number) × (now (answer .exit) ≡ filled back (now (answer .entry))) ⌝ }
+{
+    answer[0] = back.first as u64;
+    answer[1] = back.second as u64;
+    back.number
+}
+
+// Makes any contents the empty sheet.
+#[no_mangle]
+pub extern "C" fn sheet_clear(slots: &mut [u64], counts: &mut [u16], answer: &mut [u64]) -> usize
+    ensures { λ r. ⌜ record { number = r; store = storeOf (now (slots .exit)) (now (counts .exit)); output = []; answer = now (answer .exit) }
+        ≡ handed call.clear [] (storeOf (now (slots .entry)) (now (counts .entry))) [] (now (answer .entry)) ⌝ }
+{
+    if answer.len() < 2 {
+        return 255;
+    }
+    hand(packed_sheet::clear(slots, counts).returned(), answer)
+}
+
+// Puts the entry in at the rank.
+#[no_mangle]
+pub extern "C" fn sheet_insert(
+    slots: &mut [u64],
+    counts: &mut [u16],
+    rank: usize,
+    entry: u64,
+    tape: &[u32],
+    answer: &mut [u64],
+) -> usize
+    ensures { λ r. ⌜ record { number = r; store = storeOf (now (slots .exit)) (now (counts .exit)); output = []; answer = now (answer .exit) }
+        ≡ handed (call.insert rank entry) (now (tape .entry)) (storeOf (now (slots .entry)) (now (counts .entry))) [] (now (answer .entry)) ⌝ }
+{
+    if answer.len() < 2 {
+        return 255;
+    }
+    hand(
+        packed_sheet::insert(slots, counts, rank, entry, tape).returned(),
+        answer,
+    )
+}
+
+// Takes the entry at the rank out.
+#[no_mangle]
+pub extern "C" fn sheet_delete(
+    slots: &mut [u64],
+    counts: &mut [u16],
+    rank: usize,
+    tape: &[u32],
+    answer: &mut [u64],
+) -> usize
+    ensures { λ r. ⌜ record { number = r; store = storeOf (now (slots .exit)) (now (counts .exit)); output = []; answer = now (answer .exit) }
+        ≡ handed (call.delete rank) (now (tape .entry)) (storeOf (now (slots .entry)) (now (counts .entry))) [] (now (answer .entry)) ⌝ }
+{
+    if answer.len() < 2 {
+        return 255;
+    }
+    hand(
+        packed_sheet::delete(slots, counts, rank, tape).returned(),
+        answer,
+    )
+}
+
+// Copies the entries of ranks first to last to the front of the output.
+#[no_mangle]
+pub extern "C" fn sheet_read(
+    slots: &[u64],
+    counts: &[u16],
+    first: usize,
+    last: usize,
+    output: &mut [u64],
+    answer: &mut [u64],
+) -> usize
+    ensures { λ r. ⌜ record { number = r; store = storeOf (now (slots .entry)) (now (counts .entry)); output = now (output .exit); answer = now (answer .exit) }
+        ≡ handed (call.read first last (length (now (output .entry)))) [] (storeOf (now (slots .entry)) (now (counts .entry))) (now (output .entry)) (now (answer .entry)) ⌝ }
+{
+    if answer.len() < 2 {
+        return 255;
+    }
+    hand(
+        packed_sheet::read(slots, counts, first, last, output).returned(),
+        answer,
+    )
+}
+
+// The place of the entry at the rank, and its points.
+#[no_mangle]
+pub extern "C" fn sheet_place(
+    slots: &[u64],
+    counts: &[u16],
+    rank: usize,
+    answer: &mut [u64],
+) -> usize
+    ensures { λ r. ⌜ record { number = r; store = storeOf (now (slots .entry)) (now (counts .entry)); output = []; answer = now (answer .exit) }
+        ≡ handed (call.place rank) [] (storeOf (now (slots .entry)) (now (counts .entry))) [] (now (answer .entry)) ⌝ }
+{
+    if answer.len() < 2 {
+        return 255;
+    }
+    hand(packed_sheet::place(slots, counts, rank).returned(), answer)
+}
+
+// The number of entries of a sheet.
+#[no_mangle]
+pub extern "C" fn sheet_check(slots: &[u64], counts: &[u16], answer: &mut [u64]) -> usize
+    ensures { λ r. ⌜ record { number = r; store = storeOf (now (slots .entry)) (now (counts .entry)); output = []; answer = now (answer .exit) }
+        ≡ handed call.check [] (storeOf (now (slots .entry)) (now (counts .entry))) [] (now (answer .entry)) ⌝ }
+{
+    if answer.len() < 2 {
+        return 255;
+    }
+    hand(packed_sheet::check(slots, counts).returned(), answer)
+}

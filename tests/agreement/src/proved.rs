@@ -1,0 +1,76 @@
+//! The proved library, through its C functions (`include/sheet.h`).
+
+use crate::{Call, Returned, Store};
+
+extern "C" {
+    fn sheet_clear(slots: *mut u64, slots_len: usize, counts: *mut u16, counts_len: usize, answer: *mut u64, answer_len: usize) -> usize;
+    fn sheet_insert(
+        slots: *mut u64,
+        slots_len: usize,
+        counts: *mut u16,
+        counts_len: usize,
+        rank: usize,
+        entry: u64,
+        tape: *const u32,
+        tape_len: usize,
+        answer: *mut u64,
+        answer_len: usize,
+    ) -> usize;
+    fn sheet_delete(
+        slots: *mut u64,
+        slots_len: usize,
+        counts: *mut u16,
+        counts_len: usize,
+        rank: usize,
+        tape: *const u32,
+        tape_len: usize,
+        answer: *mut u64,
+        answer_len: usize,
+    ) -> usize;
+    fn sheet_read(
+        slots: *const u64,
+        slots_len: usize,
+        counts: *const u16,
+        counts_len: usize,
+        first: usize,
+        last: usize,
+        output: *mut u64,
+        output_len: usize,
+        answer: *mut u64,
+        answer_len: usize,
+    ) -> usize;
+    fn sheet_place(slots: *const u64, slots_len: usize, counts: *const u16, counts_len: usize, rank: usize, answer: *mut u64, answer_len: usize) -> usize;
+    fn sheet_check(slots: *const u64, slots_len: usize, counts: *const u16, counts_len: usize, answer: *mut u64, answer_len: usize) -> usize;
+}
+
+/// The call with an answer slice of this length: what it returns, the answer
+/// slice, which held 77 everywhere, and the output.
+pub fn call_with(call: &Call, store: &mut Store, room: usize) -> (u64, Vec<u64>, Vec<u64>) {
+    let mut answer = vec![77; room];
+    let (a, a_len) = (answer.as_mut_ptr(), room);
+    let (s, s_len) = (store.slots.as_mut_ptr(), store.slots.len());
+    let (c, c_len) = (store.counts.as_mut_ptr(), store.counts.len());
+    let mut out = Vec::new();
+    // Each pointer comes from a live vector of the length beside it, and no two vectors overlap.
+    let number = unsafe {
+        match call {
+            Call::Clear => sheet_clear(s, s_len, c, c_len, a, a_len),
+            Call::Insert { rank, entry, tape } => sheet_insert(s, s_len, c, c_len, *rank, *entry, tape.as_ptr(), tape.len(), a, a_len),
+            Call::Delete { rank, tape } => sheet_delete(s, s_len, c, c_len, *rank, tape.as_ptr(), tape.len(), a, a_len),
+            Call::Read { first, last, output } => {
+                out = output.clone();
+                sheet_read(s, s_len, c, c_len, *first, *last, out.as_mut_ptr(), out.len(), a, a_len)
+            }
+            Call::Place { rank } => sheet_place(s, s_len, c, c_len, *rank, a, a_len),
+            Call::Check => sheet_check(s, s_len, c, c_len, a, a_len),
+        }
+    };
+    (number as u64, answer, out)
+}
+
+/// The call with an answer slice of three: the third value stays as it was.
+pub fn call(call: &Call, store: &mut Store) -> (Returned, Vec<u64>) {
+    let (number, answer, output) = call_with(call, store, 3);
+    assert_eq!(answer[2], 77, "a call writes two values");
+    ([number, answer[0], answer[1]], output)
+}
