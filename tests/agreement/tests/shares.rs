@@ -1,0 +1,145 @@
+//! Exact shares of the proved library's own stores: every course of a short
+//! history is tried, by words that decide its faces.
+
+use agreement::{proved, Call, Store};
+use reference::coins::{Source, Undecided};
+use reference::shares::{self, every_course, shares_by_courses, table_of, Course, SheetKey, Table};
+
+/// Draws from a course and keeps the words that decide the same faces: a face
+/// is a word below the number of faces; a draw among 1 reads none.
+struct Words<'a> {
+    course: &'a mut Course,
+    words: Vec<u32>,
+}
+
+impl Source for Words<'_> {
+    fn draw(&mut self, m: u64) -> Result<u64, Undecided> {
+        let face = self.course.draw(m)?;
+        if m > 1 {
+            self.words.push(face as u32);
+        }
+        Ok(face)
+    }
+}
+
+/// The call with this tape.
+fn with_tape(call: shares::Call, tape: Vec<u32>) -> Call {
+    match call {
+        shares::Call::Clear => Call::Clear,
+        shares::Call::Insert { rank, entry } => Call::Insert { rank, entry, tape },
+        shares::Call::Delete { rank } => Call::Delete { rank, tape },
+        shares::Call::Read { first, last, output } => Call::Read { first, last, output: vec![0; output] },
+        shares::Call::Place { rank } => Call::Place { rank },
+        shares::Call::Check => Call::Check,
+    }
+}
+
+fn key(store: &Store) -> SheetKey {
+    let mut copy = shares::Store::cleared();
+    copy.slots.copy_from_slice(&store.slots);
+    copy.counts.copy_from_slice(&store.counts);
+    copy.sheet()
+}
+
+/// The table of the stores that the proved calls leave. The second
+/// implementation tells only among how many faces each draw is.
+fn proved_table(history: &[shares::Call]) -> Table {
+    table_of(every_course(|course| {
+        let mut guide = shares::Store::cleared();
+        let mut store = Store::unused();
+        proved::call(&Call::Clear, &mut store);
+        for &call in history {
+            let mut source = Words { course: &mut *course, words: Vec::new() };
+            let number = guide.call(call, &mut source);
+            let read = source.words.len();
+            let (answer, _) = proved::call(&with_tape(call, source.words), &mut store);
+            assert_eq!(answer[0], u64::from(number));
+            if number == 0 && matches!(call, shares::Call::Insert { .. } | shares::Call::Delete { .. }) {
+                assert_eq!(answer[2], read as u64, "words read");
+            }
+        }
+        key(&store)
+    }))
+}
+
+const fn insert(rank: usize, entry: u64) -> shares::Call {
+    shares::Call::Insert { rank, entry }
+}
+
+const fn delete(rank: usize) -> shares::Call {
+    shares::Call::Delete { rank }
+}
+
+/// Histories that end with the list 1, 2, 3.
+fn with_the_same_list() -> Vec<Vec<shares::Call>> {
+    vec![
+        vec![insert(0, 1), insert(1, 2), insert(2, 3)],
+        vec![insert(0, 3), insert(0, 2), insert(0, 1)],
+        vec![insert(0, 1), insert(1, 2), insert(2, 3), insert(1, 9), delete(1)],
+        vec![insert(0, 9), insert(0, 8), delete(1), delete(0), insert(0, 2), insert(0, 1), insert(2, 3)],
+        vec![insert(0, 7), shares::Call::Clear, insert(0, 1), insert(1, 3), shares::Call::Check, insert(1, 2)],
+        vec![insert(0, 1), insert(9, 4), insert(1, 0), insert(1, 3), delete(5), shares::Call::Place { rank: 7 }, insert(1, 2)],
+    ]
+}
+
+#[test]
+fn the_same_list_has_the_same_table() {
+    let tables: Vec<Table> = with_the_same_list().iter().map(|history| proved_table(history)).collect();
+    assert_eq!(tables[0].len(), 3, "M is 3, 4 or 5");
+    for table in &tables {
+        assert!(*table == tables[0]);
+    }
+}
+
+#[test]
+fn other_lists_have_other_tables() {
+    let histories = [
+        vec![],
+        vec![insert(0, 1)],
+        vec![insert(0, 1), insert(1, 2)],
+        vec![insert(0, 2), insert(1, 1)],
+        vec![insert(0, 1), insert(1, 2), insert(2, 3)],
+        vec![insert(0, 1), insert(1, 2), insert(2, 2)],
+    ];
+    let tables: Vec<Table> = histories.iter().map(|history| proved_table(history)).collect();
+    for (i, table) in tables.iter().enumerate() {
+        for other in &tables[i + 1..] {
+            assert!(table != other);
+        }
+    }
+}
+
+#[test]
+fn tables_are_those_of_the_rules() {
+    for history in with_the_same_list() {
+        assert!(proved_table(&history) == shares_by_courses(&history));
+    }
+}
+
+/// A bent rule is noticed: where the first draw of a call has more than two
+/// faces, its last face is never drawn.
+#[test]
+fn a_bent_rule_is_noticed() {
+    struct Bent<'a> {
+        course: &'a mut Course,
+        first: bool,
+    }
+    impl Source for Bent<'_> {
+        fn draw(&mut self, m: u64) -> Result<u64, Undecided> {
+            let bent = if self.first && m > 2 { m - 1 } else { m };
+            self.first = false;
+            self.course.draw(bent)
+        }
+    }
+    let bent_table = |history: &[shares::Call]| {
+        table_of(every_course(|course| {
+            let mut store = shares::Store::cleared();
+            for &call in history {
+                store.call(call, &mut Bent { course: &mut *course, first: true });
+            }
+            store.sheet()
+        }))
+    };
+    let histories = with_the_same_list();
+    assert!(bent_table(&histories[0]) != bent_table(&histories[2]));
+}

@@ -1,0 +1,46 @@
+/* A small display program: enters boats, strikes one out, and prints place, points and sail number of each. */
+#include "sheet.h"
+
+#include <inttypes.h>
+#include <stdio.h>
+#include <stdlib.h>
+
+static uint64_t slots[SHEET_SLOTS];
+static uint16_t counts[SHEET_COUNTS];
+
+/* Stops the program where a call was refused. */
+static void accepted(const char *call, size_t number) {
+    if (number != 0) {
+        fprintf(stderr, "%s: refused, cause %zu\n", call, number);
+        exit(1);
+    }
+}
+
+int main(void) {
+    static const uint64_t boats[] = {117, 42, 2024, 7, 311};
+    const size_t n = sizeof boats / sizeof boats[0];
+    uint32_t tape[16];
+    uint64_t answer[2], output[5];
+    size_t i;
+
+    for (i = 0; i < sizeof tape / sizeof tape[0]; i++)
+        tape[i] = (uint32_t)(2654435761u * (i + 1));
+
+    accepted("clear", sheet_clear(slots, SHEET_SLOTS, counts, SHEET_COUNTS, answer, 2));
+    for (i = 0; i < n; i++)
+        accepted("insert", sheet_insert(slots, SHEET_SLOTS, counts, SHEET_COUNTS, i, boats[i], tape, 16, answer, 2));
+    accepted("delete", sheet_delete(slots, SHEET_SLOTS, counts, SHEET_COUNTS, 2, tape, 16, answer, 2));
+
+    accepted("check", sheet_check(slots, SHEET_SLOTS, counts, SHEET_COUNTS, answer, 2));
+    printf("%" PRIu64 " boats\n", answer[0]);
+    accepted("read", sheet_read(slots, SHEET_SLOTS, counts, SHEET_COUNTS, 0, (size_t)answer[0] - 1, output, 5, answer, 2));
+    for (i = 0; i < n - 1; i++) {
+        accepted("place", sheet_place(slots, SHEET_SLOTS, counts, SHEET_COUNTS, i, answer, 2));
+        printf("%" PRIu64 " %" PRIu64 " %" PRIu64 "\n", answer[0], answer[1], output[i]);
+    }
+
+    printf("rank too high: %zu\n", sheet_place(slots, SHEET_SLOTS, counts, SHEET_COUNTS, n, answer, 2));
+    printf("no tape: %zu\n", sheet_insert(slots, SHEET_SLOTS, counts, SHEET_COUNTS, 0, 5, tape, 0, answer, 2));
+    printf("answer too short: %zu\n", sheet_check(slots, SHEET_SLOTS, counts, SHEET_COUNTS, answer, 1));
+    return 0;
+}
