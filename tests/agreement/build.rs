@@ -1,4 +1,4 @@
-//! Links the archive that `rt staticlib sheet_c` makes.
+//! Links the archives that `rt staticlib` makes of `sheet_c` and `frames`.
 
 use std::env;
 use std::path::Path;
@@ -7,6 +7,8 @@ fn main() {
     let here = env::var("CARGO_MANIFEST_DIR").unwrap();
     let archive = Path::new(&here).join("../../target/staticlib");
     println!("cargo:rustc-link-search=native={}", archive.display());
-    println!("cargo:rustc-link-lib=static=sheet_c");
-    println!("cargo:rerun-if-changed={}", archive.join("libsheet_c.a").display());
+    for name in ["sheet_c", "frames"] {
+        println!("cargo:rustc-link-lib=static={name}");
+        println!("cargo:rerun-if-changed={}", archive.join(format!("lib{name}.a")).display());
+    }
 }

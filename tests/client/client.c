@@ -1,9 +1,12 @@
-/* A small display program: enters boats, strikes one out, and prints place, points and sail number of each. */
+/* A small display program: enters boats, strikes one out, and prints place, points and sail number of each;
+ * then the kinds of some lines. */
+#include "frames.h"
 #include "sheet.h"
 
 #include <inttypes.h>
 #include <stdio.h>
 #include <stdlib.h>
+#include <string.h>
 
 static uint64_t slots[SHEET_SLOTS];
 static uint16_t counts[SHEET_COUNTS];
@@ -18,6 +21,7 @@ static void accepted(const char *call, size_t number) {
 
 int main(void) {
     static const uint64_t boats[] = {117, 42, 2024, 7, 311};
+    static const char *const lines[] = {"010000000000000000000A", "0400000001", "05", "0a", ""};
     const size_t n = sizeof boats / sizeof boats[0];
     uint32_t tape[16];
     uint64_t answer[2], output[5];
@@ -42,5 +46,8 @@ int main(void) {
     printf("rank too high: %zu\n", sheet_place(slots, SHEET_SLOTS, counts, SHEET_COUNTS, n, answer, 2));
     printf("no tape: %zu\n", sheet_insert(slots, SHEET_SLOTS, counts, SHEET_COUNTS, 0, 5, tape, 0, answer, 2));
     printf("answer too short: %zu\n", sheet_check(slots, SHEET_SLOTS, counts, SHEET_COUNTS, answer, 1));
+
+    for (i = 0; i < sizeof lines / sizeof lines[0]; i++)
+        printf("%s: %u\n", lines[i], frame_kind((const uint8_t *)lines[i], strlen(lines[i])));
     return 0;
 }

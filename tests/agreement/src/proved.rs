@@ -1,4 +1,5 @@
-//! The proved library, through its C functions (`include/sheet.h`).
+//! The proved library, through its C functions (`include/sheet.h`,
+//! `include/frames.h`).
 
 use crate::{Call, Returned, Store};
 
@@ -41,6 +42,7 @@ extern "C" {
     ) -> usize;
     fn sheet_place(slots: *const u64, slots_len: usize, counts: *const u16, counts_len: usize, rank: usize, answer: *mut u64, answer_len: usize) -> usize;
     fn sheet_check(slots: *const u64, slots_len: usize, counts: *const u16, counts_len: usize, answer: *mut u64, answer_len: usize) -> usize;
+    fn frame_kind(line: *const u8, line_len: usize) -> u8;
 }
 
 /// The call with an answer slice of this length: what it returns, the answer
@@ -73,4 +75,10 @@ pub fn call(call: &Call, store: &mut Store) -> (Returned, Vec<u64>) {
     let (number, answer, output) = call_with(call, store, 3);
     assert_eq!(answer[2], 77, "a call writes two values");
     ([number, answer[0], answer[1]], output)
+}
+
+/// The kind of a line without its LF.
+pub fn frame_kind_of(line: &[u8]) -> u8 {
+    // The pointer and the length are those of the slice.
+    unsafe { frame_kind(line.as_ptr(), line.len()) }
 }

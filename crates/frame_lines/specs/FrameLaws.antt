@@ -1,0 +1,164 @@
+-- Laws of frames: how a line is tested from a place on, that c digits write a number below 16 ^ c, which test decides a frame, and that
+-- the words of a tape lie within its line. Assumes nothing.
+use mathlib.Core.Path.{_≡_, refl, ap, sym, _∙_}
+use mathlib.Core.Bool.{Bool, true, false}
+use mathlib.Core.Logic.{_≢_}
+use mathlib.Core.List.{List}
+use Prim.Native.Nat.{ℕ, zero, suc, _+_, _*_, _/_, _%_, _<_, _≤_, _^_}
+use native.Mathlib.Omega.{arith}
+use native.Mathlib.Numerals.{add-one}
+use native.Mathlib.Nat.{pow-suc, pow-zero, pow-le-pow-right}
+use lib.ListN.{length, getD, drop, drop-of-length-le}
+use lib.Seq.{drop-cons}
+use borrow.Author.Tests.{eq-eqb, ne-eqb}
+use Rattle.base.specs.CaseLaws.{ifEq-yes, ifEq-no, ifLt-yes, ifLt-no, by-eq, by-lt}
+use Rattle.frame_lines.specs.Frame.{isHexDigit, hexValue, allHex, isHexLine, field, ofLength, insertOf, deleteOf, readOf, tapeOf, placeOf, formOf, frameOf, wordsOf}
+use Rattle.frame_lines.specs.declared.Frame.{Frame}
+use Rattle.frame_lines.specs.declared.Frame.the-variants.{NoFrame}
+
+-- ---- digits
+
+pub hex-value-lt : (b : ℕ) → hexValue b < 16
+unfolding hexValue
+hex-value-lt b =
+    by-lt (λ v. v < 16) b 48 _ _ (λ _. omega arith)
+    (λ _. by-lt (λ v. v < 16) b 58 _ _ (λ (h : b < 58). omega arith)
+    (λ _. by-lt (λ v. v < 16) b 65 _ _ (λ _. omega arith)
+    (λ _. by-lt (λ v. v < 16) b 71 _ _ (λ (h : b < 71). omega arith) (λ _. omega arith))))
+
+pub field-lt : (line : List ℕ) (i c : ℕ) → field line i c < 16 ^ c
+unfolding field
+field-lt line i zero = rw (pow-zero 16) (omega arith)
+field-lt line i (suc c) =
+    rw (pow-suc 16 c) (omega (arith, field-lt line i c, hex-value-lt (getD line (i + c) 0)))
+
+pub field-zero : (line : List ℕ) (i : ℕ) → field line i 0 ≡ 0
+unfolding field
+field-zero line i = refl
+
+pub field-suc : (line : List ℕ) (i c : ℕ) → field line i (c + 1) ≡ field line i c * 16 + hexValue (getD line (i + c) 0)
+unfolding field
+field-suc line i c = rw (add-one c)
+
+-- c < 16 digits and one more fit 64 bits
+pub field-next : (line : List ℕ) (i c v : ℕ) → c < 16 → v < 16 → field line i c * 16 + v < 2 ^ 64
+field-next line i c v l h =
+    let b : 0 < 16 = omega arith in
+    let m : c ≤ 15 = omega arith in
+    let p : 16 ^ c ≤ 16 ^ 15 = pow-le-pow-right b m in
+    omega (arith, field-lt line i c, p)
+
+-- ---- the line from a place on
+
+module _ (line : List ℕ) (i : ℕ) where
+  pub hex-step : i < length line → isHexDigit (getD line i 0) ≡ true → allHex (drop i line) ≡ allHex (drop (i + 1) line)
+  unfolding allHex
+  hex-step l h = rw (drop-cons line i 0 l, add-one, h)
+
+  pub hex-other : i < length line → isHexDigit (getD line i 0) ≡ false → allHex (drop i line) ≡ false
+  unfolding allHex
+  hex-other l h = rw (drop-cons line i 0 l, h)
+
+  pub hex-past : length line ≤ i → allHex (drop i line) ≡ true
+  unfolding allHex
+  hex-past l = rw (drop-of-length-le line l)
+
+pub line-odd : (line : List ℕ) → length line % 2 ≢ 0 → isHexLine line ≡ false
+unfolding isHexLine
+line-odd line ne = rw (ne-eqb (length line % 2) 0 ne)
+
+pub line-even : (line : List ℕ) → length line % 2 ≡ 0 → isHexLine line ≡ allHex line
+unfolding isHexLine
+line-even line e = rw (eq-eqb (length line % 2) 0 e)
+
+-- ---- lengths
+
+module _ (line : List ℕ) (n : ℕ) (x : Frame) where
+  pub length-is : length line ≡ n → ofLength line n x ≡ x
+  unfolding ofLength
+  length-is e = ifEq-yes (length line) n x NoFrame e
+
+  pub length-other : length line ≢ n → ofLength line n x ≡ NoFrame
+  unfolding ofLength
+  length-other ne = ifEq-no (length line) n x NoFrame ne
+
+-- ---- the first byte
+
+pub at-first : (line : List ℕ) (first k : ℕ) → first ≡ k → formOf k line ≡ formOf first line
+at-first line first k e = ap (λ (n : ℕ). formOf n line) (sym e)
+
+pub first-other : (line : List ℕ) (k : ℕ) → k ≢ 1 → k ≢ 2 → k ≢ 3 → k ≢ 4 → k ≢ 5 → k ≢ 6 → k ≢ 7 → formOf k line ≡ NoFrame
+unfolding formOf
+first-other line k n1 n2 n3 n4 n5 n6 n7 =
+    ifEq-no k 1 _ _ n1
+    ∙ ifEq-no k 2 _ _ n2
+    ∙ ifEq-no k 3 _ _ n3
+    ∙ ifEq-no k 4 _ _ n4
+    ∙ ifEq-no k 5 _ _ n5
+    ∙ ifEq-no k 6 _ _ n6
+    ∙ ifEq-no k 7 _ _ n7
+
+-- ---- the frame
+
+pub frame-short : (line : List ℕ) → length line < 2 → frameOf line ≡ NoFrame
+unfolding frameOf
+frame-short line l = ifLt-yes (length line) 2 _ _ l
+
+pub frame-other : (line : List ℕ) → 2 ≤ length line → isHexLine line ≡ false → frameOf line ≡ NoFrame
+unfolding frameOf
+frame-other line l h = ifLt-no (length line) 2 _ _ l ∙ rw h
+
+pub frame-hex : (line : List ℕ) → 2 ≤ length line → isHexLine line ≡ true → frameOf line ≡ formOf (field line 0 2) line
+unfolding frameOf
+frame-hex line l h = ifLt-no (length line) 2 _ _ l ∙ rw h
+
+-- ---- the words of a tape line
+
+-- A tape of w words has 2 + 8 w digits; no other frame has words.
+Fits : List ℕ → Frame → Type 0
+Fits line x = (k : ℕ) → k < wordsOf x → 10 + 8 * k ≤ length line
+
+fits-none : (line : List ℕ) (x : Frame) → wordsOf x ≡ 0 → Fits line x
+unfolding Fits
+fits-none line x e k l = omega arith
+
+fits-length : (line : List ℕ) (n : ℕ) (x : Frame) → wordsOf x ≡ 0 → Fits line (ofLength line n x)
+unfolding ofLength wordsOf
+fits-length line n x e = by-eq (Fits line) (length line) n x NoFrame (λ _. fits-none line x e) (λ _. fits-none line NoFrame refl)
+
+fits-tape : (line : List ℕ) → Fits line (tapeOf line)
+unfolding tapeOf wordsOf Fits
+fits-tape line =
+    by-eq (Fits line) (length line % 8) 2 _ _
+    (λ (e : length line % 8 ≡ 2).
+    by-lt (Fits line) (length line / 8) 1 _ _ (λ _. fits-none line NoFrame refl)
+    (λ _. by-lt (Fits line) 16 (length line / 8) _ _ (λ _. fits-none line NoFrame refl)
+    (λ _ k (l : k < length line / 8). omega (arith, e, l))))
+    (λ _. fits-none line NoFrame refl)
+
+fits-form : (line : List ℕ) (first : ℕ) → Fits line (formOf first line)
+unfolding formOf insertOf deleteOf readOf placeOf wordsOf
+fits-form line first =
+    by-eq (Fits line) first 1 _ _ (λ _. fits-length line 22 _ refl)
+    (λ _. by-eq (Fits line) first 2 _ _ (λ _. fits-length line 6 _ refl)
+    (λ _. by-eq (Fits line) first 3 _ _ (λ _. fits-length line 10 _ refl)
+    (λ _. by-eq (Fits line) first 4 _ _ (λ _. fits-tape line)
+    (λ _. by-eq (Fits line) first 5 _ _ (λ _. fits-length line 2 _ refl)
+    (λ _. by-eq (Fits line) first 6 _ _ (λ _. fits-length line 2 _ refl)
+    (λ _. by-eq (Fits line) first 7 _ _ (λ _. fits-length line 6 _ refl) (λ _. fits-none line NoFrame refl)))))))
+
+fits-frame : (line : List ℕ) → Fits line (frameOf line)
+unfolding frameOf wordsOf
+fits-frame line =
+    by-lt (Fits line) (length line) 2 _ _ (λ _. fits-none line NoFrame refl) (λ _. hex (isHexLine line))
+  where
+    hex : (h : Bool) → Fits line (elim h [ true ↦ formOf (field line 0 2) line | false ↦ NoFrame ])
+    hex true = fits-form line (field line 0 2)
+    hex false = fits-none line NoFrame refl
+
+pub word-inside : (line : List ℕ) (k : ℕ) → k < wordsOf (frameOf line) → 10 + 8 * k ≤ length line
+unfolding Fits
+word-inside line k l = fits-frame line k l
+
+pub word-lt : (line : List ℕ) (i : ℕ) → field line i 8 < 2 ^ 32
+word-lt line i = field-lt line i 8

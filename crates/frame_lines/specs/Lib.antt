@@ -1,0 +1,4 @@
+-- A line of bytes read as a frame: its definition, its laws, and written lines.
+pub mod Frame
+pub mod FrameLaws
+pub mod Examples
