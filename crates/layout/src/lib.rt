@@ -210,14 +210,6 @@ fn tree_is_balanced(m: usize, levels: usize, d: usize, k: usize, counts: &[u32])
     tree_is_balanced(m, levels - 1, d + 1, 2 * k + 1, counts)
 }
 
-// 2 ^ k
-fn power(k: usize) -> usize
-    requires fits { ⌜ k < 64 ⌝ }
-    ensures { λ r. ⌜ r ≡ 2 ^ k ⌝ }
-{
-    1usize << k
-}
-
 // The greatest size parameter that n entries can have.
 fn greatest_size(n: usize) -> usize
     requires few { ⌜ n < 2 ^ 30 ⌝ }
@@ -250,7 +242,7 @@ fn counts_are_shaped(entries: usize, counts: &[u32]) -> bool
     if !tree_is_balanced(m, h, 0, 1, counts) {
         return false;
     }
-    counts_are_zero(counts, 2 * power(h))
+    counts_are_zero(counts, 2 * sizes::power(h))
 }
 
 // The slots are those of leaves with the numbers of entries that the counts tell, and 0 behind the last leaf.
@@ -262,7 +254,7 @@ fn slots_are_laid(slots: &[u64], counts: &[u32]) -> bool
     let size = Size { m: m };
     let s = size.leaf_slots();
     let h = size.height();
-    let leaves = power(h);
+    let leaves = sizes::power(h);
     if !leaves_are_spread(slots, s, counts, leaves, leaves) {
         return false;
     }

@@ -15,14 +15,6 @@ ghost use Rattle.part_layout.specs.LayPart.{partEntries, PartReady, Entr
 ghost use Rattle.part_layout.specs.Plan.{partFrom, partLength};
 ghost use Rattle.part_layout.specs.Region.{leavesOf, leavesBefore};
 
-// 2 ^ k
-fn power(k: usize) -> usize
-    requires fits { ⌜ k < 64 ⌝ }
-    ensures { λ r. ⌜ r ≡ 2 ^ k ⌝ }
-{
-    1usize << k
-}
-
 // How many leaves a range at this depth has.
 pub fn region_leaves(size: Size, depth: usize) -> usize
     requires deepest { ⌜ depth ≤ height (size .m) ⌝ }
@@ -30,7 +22,7 @@ pub fn region_leaves(size: Size, depth: usize) -> usize
     ensures { λ r. ⌜ r ≡ leavesOf (size .m) depth ⌝ }
 {
     let h = size.height();
-    power(h - depth)
+    sizes::power(h - depth)
 }
 
 // How many leaves stand before the first leaf of the range with this number at this depth.
@@ -41,7 +33,7 @@ pub fn region_before(size: Size, range: usize, depth: usize) -> usize
     requires last { ⌜ range < 2 * 2 ^ depth ⌝ }
     ensures { λ r. ⌜ r ≡ leavesBefore (size .m) range depth ⌝ }
 {
-    let number = range - power(depth);
+    let number = range - sizes::power(depth);
     number * region_leaves(size, depth)
 }
 

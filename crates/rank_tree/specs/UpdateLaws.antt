@@ -1,18 +1,17 @@
 -- Laws of the whole change: what the size step and the walk end with, what they ask, and what they leave. Assumes nothing.
 use mathlib.Core.Path.{_≡_, refl, ap, sym, _∙_, subst}
-use mathlib.Core.Logic.{inl, inr, _≢_}
+use mathlib.Core.Logic.{inl, inr}
 use mathlib.Core.List.{List, [], _∷_, _++_}
-use Prim.Native.Nat.{ℕ, zero, suc, _+_, _-_, _*_, _≤_, _<_}
+use Prim.Native.Nat.{ℕ, zero, suc, _+_, _≤_, _<_}
 use native.Mathlib.Omega.{arith}
 use native.Mathlib.Numerals.{add-one}
 use lib.ListN.{length, set, take, replicate, replicate-append-replicate}
 use lib.Seq.{take-all, take-suc-set}
-use Rattle.base.specs.CaseLaws.{by-eq, by-lt, by-le}
-use Rattle.shares.specs.Program.{Program, done, draw, Ends}
+use Rattle.base.specs.CaseLaws.{by-eq, by-lt}
+use Rattle.shares.specs.Program.{Program, Ends}
 use Rattle.shares.specs.ProgramLaws.{ends-bind}
-use Rattle.shares.specs.Course.{Follows}
-use Rattle.shares.specs.Tape.{Ran, ran, ended, runAt, afterRun, facesOn}
-use Rattle.shares.specs.TapeLaws.{run-bind, run-follows}
+use Rattle.shares.specs.Tape.{Ran, ran, ended, runAt, afterRun}
+use Rattle.shares.specs.TapeLaws.{run-bind, run-ends}
 use Rattle.sizes.specs.Sizes.{Allowed, height, candidates}
 use Rattle.sizes.specs.Fit.{fit}
 use Rattle.rules.specs.declared.Change.{Change}
@@ -23,8 +22,9 @@ use Rattle.rules.specs.declared.Stepped.{Stepped}
 use Rattle.rules.specs.declared.Stepped.the-variants as stepped
 use Rattle.rules.specs.Tree.{Tree, leaf, node}
 use Rattle.rules.specs.Compare.{countAfter, compare}
-use Rattle.rules.specs.Rules.{InReach, join, rebuild, rebuildHalves, visit, walk, rankOf, SizeStep, kept, anew, grow, insertSize, shrink, deleteSize, sizeStep, fresh, reshape, update}
+use Rattle.rules.specs.Rules.{join, rebuild, rebuildHalves, visit, walk, rankOf, SizeStep, kept, anew, sizeStep, sizeAfter, fresh, reshape, update}
 use Rattle.rules.specs.Step.{steppedAs}
+use Rattle.rules.specs.ShapeLaws.{step-ends}
 use Rattle.rank_tree.specs.declared.Rebuilt.{Rebuilt}
 use Rattle.rank_tree.specs.declared.Rebuilt.the-variants as rebuilt
 use Rattle.rank_tree.specs.declared.Walked.{Walked}
@@ -38,55 +38,6 @@ use Rattle.rank_tree.specs.Walk.{Holds, CanWalk, walkRun, WalkedAs}
 use Rattle.rank_tree.specs.CountLaws.{Perfect, balanced-perfect, write-over, holds-written}
 
 -- ---- what the programs end with
-
--- A run on a tape ends with a value that every run of the program meets.
-follows-ends : {A : Type 0} (R : A → Type 0) (p : Program A) (faces : List ℕ) (a : A) → Ends R p → Follows p faces a → R a
-unfolding Ends Follows
-follows-ends R (done b) [] a e h = subst R h e
-follows-ends R (done b) (face ∷ faces) a e h = absurd h
-follows-ends R (draw m p) [] a e h = absurd h
-follows-ends R (draw m p) (face ∷ faces) a e h = follows-ends R (p face) faces a (e face (h .0)) (h .1)
-
-run-ends : {A : Type 0} (R : A → Type 0) (p : Program A) (tape : List ℕ) (at : ℕ) (a : A) (next : ℕ) → Ends R p
-    → runAt p tape at ≡ ran a next → R a
-run-ends R p tape at a next e h = follows-ends R p (facesOn p tape at) a e (run-follows p tape at a next h)
-
--- The size parameter after the step is one that the entries after the change can have.
-unfoldable StepAllowed : ℕ → ℕ → SizeStep → Type 0
-StepAllowed N M kept = Allowed N M
-StepAllowed N M (anew M′) = Allowed N M′
-
-grow-allowed : (N M : ℕ) → N ≢ 0 → Ends (StepAllowed (suc N) M) (grow N)
-unfolding grow Ends StepAllowed
-grow-allowed N M some = λ face h. record { least = omega arith; most = omega arith }
-
-insert-allowed : (N M : ℕ) → Allowed N M → Ends (StepAllowed (suc N) M) (insertSize N M)
-unfolding insertSize Ends StepAllowed
-insert-allowed N M a =
-    by-eq (Ends (StepAllowed (suc N) M)) N 0 _ _
-    (λ e. record { least = omega arith; most = omega arith })
-    (λ some. by-eq (Ends (StepAllowed (suc N) M)) M N _ _
-    (λ e. grow-allowed N M some)
-    (λ ne face h. by-eq (Ends (StepAllowed (suc N) M)) face 0 _ _
-    (λ first. grow-allowed N M some)
-    (λ later. record { least = omega (arith, a .least); most = omega (arith, a .most) })))
-
-delete-allowed : (N M : ℕ) → 0 < N → Allowed N M → Ends (StepAllowed (N - 1) M) (deleteSize N M)
-unfolding deleteSize shrink Ends StepAllowed
-delete-allowed N M some a =
-    by-eq (Ends (StepAllowed (N - 1) M)) N 1 _ _
-    (λ e. record { least = omega arith; most = omega arith })
-    (λ more. by-le (Ends (StepAllowed (N - 1) M)) (2 * N - 2) M _ _
-    (λ l face h. by-lt (Allowed (N - 1)) face (N - 2) _ _
-    (λ k. record { least = omega arith; most = omega arith })
-    (λ k. record { least = omega arith; most = omega arith }))
-    (λ l. record { least = omega (arith, a .least); most = omega arith }))
-
-step-allowed : (change : Change) (N M : ℕ) → InReach change N → Allowed N M
-    → Ends (StepAllowed (countAfter change N) M) (sizeStep change N M)
-unfolding sizeStep countAfter InReach
-step-allowed (Insert i) N M reach a = insert-allowed N M a
-step-allowed (Delete i) N M reach a = delete-allowed N M (omega arith) a
 
 -- All leaves of a range stay at their depth.
 join-perfect : (levels b : ℕ) (l r : Program Tree) → Ends (Perfect levels) l → Ends (Perfect levels) r
@@ -235,10 +186,10 @@ module _ {change : Change} {N M : ℕ} {counts : List ℕ} (ready : Ready change
   -- ---- the size step
 
   module _ (tape : List ℕ) (answer : Stepped) (is : answer ≡ steppedAs (runAt (sizeStep change N M) tape 0)) where
-    step-meets : (step : SizeStep) (next : ℕ) → runAt (sizeStep change N M) tape 0 ≡ ran step next → StepAllowed (countAfter change N) M step
+    step-meets : (step : SizeStep) (next : ℕ) → runAt (sizeStep change N M) tape 0 ≡ ran step next → Allowed (countAfter change N) (sizeAfter M step)
     step-meets step next e =
-        run-ends (StepAllowed (countAfter change N) M) (sizeStep change N M) tape 0 step next
-        (step-allowed change N M (ready .reach) allowed) e
+        run-ends (λ step. Allowed (countAfter change N) (sizeAfter M step)) (sizeStep change N M) tape 0 step next
+        (step-ends change N M (ready .reach) allowed) e
 
     update-run : runAt (update change N (shapeIn M counts)) tape 0
         ≡ afterRun (runAt (sizeStep change N M) tape 0) (λ step next. runAt (reshape change N (shapeIn M counts) step) tape next)
@@ -250,7 +201,7 @@ module _ {change : Change} {N M : ℕ} {counts : List ℕ} (ready : Ready change
       step-kept = stepped-kept (runAt (sizeStep change N M) tape 0) next (sym is ∙ e)
 
       pub kept-can : CanWalk change N M counts
-      unfolding StepAllowed
+      unfolding sizeAfter
       kept-can = can-walk (step-meets kept next step-kept)
 
       pub kept-updated : (result : Walked) (counts′ : List ℕ)
@@ -270,7 +221,7 @@ module _ {change : Change} {N M : ℕ} {counts : List ℕ} (ready : Ready change
 
       module _ (n : ℕ) (en : n ≡ countAfter change N) where
         pub anew-can : CanRebuild M′ (height M′) 0 1 n (length counts)
-        unfolding StepAllowed
+        unfolding sizeAfter
         anew-can = rw en (can-fresh M′ (step-meets (anew M′) next step-anew))
 
         pub anew-updated : (rank : ℕ) (result : Rebuilt) (counts′ : List ℕ) → rank ≡ rankOf change

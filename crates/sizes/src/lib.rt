@@ -4,7 +4,7 @@ ghost use Prim.Native.Nat.{_^_, _<_, _≤_};
 ghost use Rattle.sizes.specs.Sizes.{digits, height, leafSlots, slots, candidates, windowStart};
 
 // 2 ^ k
-fn power(k: usize) -> usize
+pub fn power(k: usize) -> usize
     requires fits { ⌜ k < 64 ⌝ }
     ensures { λ r. ⌜ r ≡ 2 ^ k ⌝ }
 {
