@@ -1,0 +1,26 @@
+-- `put_brief` meets its contract. Assumes nothing.
+use native.Mathlib.Omega.{arith}
+use borrow.Author.Needs.{needs}
+use Rattle.answer_lines.specs.Reply.{encode, lineOf}
+use Rattle.answer_lines.specs.DigitLaws.{length-heading}
+use Rattle.answer_lines.specs.WroteLaws.{wrote-room, wrote-more}
+use Rattle.answer_lines.proofs.put_brief.Statement.{statement}
+use Rattle.answer_lines.proofs.put_brief.Tie as tie
+
+put-heading-requires : tie.Need-put-heading-requires
+put-heading-requires c κs = search needs
+
+put-end-requires : tie.Need-put-end-requires
+put-end-requires c κs = omega (arith, wrote-room (c .before .before .before .put-heading .ensures) 8 1 (length-heading _ _ _) (omega arith))
+
+same-length : tie.Need-same-length
+same-length c = search needs
+
+returns : tie.Need-returns
+unfolding lineOf encode
+returns c =
+    let last = c .before .before in
+    wrote-more (last .before .before .before .before .put-heading .ensures) (last .put-end .ensures)
+
+pub put-brief-spec : {M : Type 1} → statement M
+put-brief-spec = tie.close (tie.spec put-heading-requires put-end-requires same-length returns)

@@ -1,0 +1,26 @@
+-- `put_sheet` meets its contract. Assumes nothing.
+use native.Mathlib.Omega.{arith}
+use borrow.Author.Needs.{needs}
+use Rattle.answer_lines.specs.Reply.{encode, lineOf}
+use Rattle.answer_lines.specs.DigitLaws.{length-title}
+use Rattle.answer_lines.specs.WroteLaws.{wrote-room, wrote-more}
+use Rattle.answer_lines.proofs.put_sheet.Statement.{statement}
+use Rattle.answer_lines.proofs.put_sheet.Tie as tie
+
+put-title-requires : tie.Need-put-title-requires
+put-title-requires c κs = search needs
+
+put-end-requires : tie.Need-put-end-requires
+put-end-requires c κs = omega (arith, wrote-room (c .before .before .before .put-title .ensures) 10 1 (length-title _ _ _) (omega arith))
+
+same-length : tie.Need-same-length
+same-length c = search needs
+
+returns : tie.Need-returns
+unfolding lineOf encode
+returns c =
+    let last = c .before .before in
+    wrote-more (last .before .before .before .before .put-title .ensures) (last .put-end .ensures)
+
+pub put-sheet-spec : {M : Type 1} → statement M
+put-sheet-spec = tie.close (tie.spec put-title-requires put-end-requires same-length returns)
