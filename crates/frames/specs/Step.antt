@@ -1,0 +1,164 @@
+-- What the program answers to a line, and what it keeps (document 01, "Frames"). Definitions only: they assume nothing.
+use mathlib.Core.List.{List, [], _∷_, _++_}
+use Prim.Native.Nat.{ℕ, zero, suc, _+_, _-_, _*_, _^_}
+use lib.ListN.{length, getD, take, drop, replicate}
+use Rattle.base.specs.Cases.{ifEq, ifLt}
+use Rattle.sizes.specs.Sizes.{height, leafSlots}
+use Rattle.layout.specs.Layout.{Store}
+use Rattle.packed_sheet.specs.declared.Returned.{Returned}
+use Rattle.packed_sheet.specs.Call.{Call, clear, insert, delete, read, place, check, returned, clubs}
+use Rattle.packed_sheet.specs.Outcome.{Outcome, outcome}
+use Rattle.frame_lines.specs.declared.Frame.{Frame}
+use Rattle.frame_lines.specs.declared.Frame.the-variants.{Insert, Delete, Read, Tape, Print, Clear, Place, NoFrame}
+use Rattle.frame_lines.specs.Frame.{frameOf, wordAt}
+use Rattle.answer_lines.specs.Reply.{Reply, brief, entries, placed, sheet, leaf, bytesOf}
+
+-- What the program keeps between two lines: the store, and the tape, of whose words the first `waiting` wait, the oldest first.
+pub record Kept : Type 0 where
+  pub store : Store
+  pub tape : List ℕ
+  pub waiting : ℕ
+
+-- The lines that answer a line, and what is kept after it.
+pub record Answered : Type 0 where
+  pub replies : List Reply
+  pub kept : Kept
+
+-- N: count 1 of a sheet is the number of its entries.
+unfoldable pub entryCount : Store → ℕ
+entryCount store = getD (store .counts) 1 0
+
+-- One line answers, and everything is kept.
+unfoldable pub keeping : Kept → Reply → Answered
+keeping k reply = record { replies = reply ∷ []; kept = k }
+
+-- ---- insert and delete
+
+-- The tape after a number of its words are read: these leave it, the others move to its front, and zeros follow them.
+unfoldable pub readOff : ℕ → List ℕ → List ℕ
+readOff words tape = drop words tape ++ replicate words 0
+
+-- The answer to a call that reads words; a refused one has read none.
+unfoldable pub changedBy : ℕ → Kept → Returned → Store → Answered
+changedBy kind k back store = record {
+  replies = brief kind (back .number) (entryCount store) ∷ [];
+  kept = record { store = store; tape = readOff (back .second) (k .tape); waiting = k .waiting - back .second };
+}
+
+unfoldable pub changed : ℕ → Kept → Outcome → Answered
+changed kind k o = changedBy kind k (returned (o .answer)) (o .store)
+
+-- ---- read, place and clear
+
+unfoldable pub readReply : Returned → ℕ → List ℕ → Reply
+readReply back n output = ifEq (back .number) 0 (entries n (take (back .first) output)) (brief 131 (back .number) n)
+
+unfoldable pub readLine : Outcome → Store → Reply
+readLine o store = readReply (returned (o .answer)) (entryCount store) (o .output)
+
+unfoldable pub placeReply : Returned → ℕ → Reply
+placeReply back n = ifEq (back .number) 0 (placed n (back .first) (back .second)) (brief 135 (back .number) n)
+
+unfoldable pub placeLine : Outcome → Store → Reply
+placeLine o store = placeReply (returned (o .answer)) (entryCount store)
+
+unfoldable pub clearLine : Outcome → Reply
+clearLine o = brief 134 (returned (o .answer) .number) (entryCount (o .store))
+
+unfoldable pub cleared : Kept → Outcome → Answered
+cleared k o = record {
+  replies = clearLine o ∷ [];
+  kept = record { store = o .store; tape = k .tape; waiting = k .waiting };
+}
+
+-- ---- tape
+
+-- The words k to k + c - 1 of a tape line.
+unfoldable pub lineWords : List ℕ → ℕ → ℕ → List ℕ
+lineWords line k zero = []
+lineWords line k (suc c) = wordAt line k ∷ lineWords line (suc k) c
+
+-- The words of the line wait behind the others, unless more than 1,024 would wait (cause 9).
+unfoldable pub taped : List ℕ → ℕ → Kept → Answered
+taped line words k =
+    ifLt 1024 (k .waiting + words) (keeping k (brief 132 9 (entryCount (k .store))))
+    (record {
+      replies = brief 132 0 (entryCount (k .store)) ∷ [];
+      kept = record {
+        store = k .store;
+        tape = take (k .waiting) (k .tape) ++ (lineWords line 0 words ++ drop (k .waiting + words) (k .tape));
+        waiting = k .waiting + words;
+      };
+    })
+
+-- ---- print
+
+-- The line of leaf j, of s slots. Its range has the number first + j, and so has its count.
+unfoldable pub leafReply : Store → ℕ → ℕ → ℕ → Reply
+leafReply store s first j = leaf j (getD (store .counts) (first + j) 0) (take s (drop (j * s) (store .slots)))
+
+-- The lines of the leaves j to j + k - 1.
+unfoldable pub leafReplies : Store → ℕ → ℕ → ℕ → ℕ → List Reply
+leafReplies store s first j zero = []
+leafReplies store s first j (suc k) = leafReply store s first j ∷ leafReplies store s first (suc j) k
+
+-- The number of leaves that are printed: none of an empty sheet.
+unfoldable pub leavesOf : ℕ → ℕ
+leavesOf m = ifEq m 0 0 (2 ^ height m)
+
+-- The lines 90 and 91. Count 0 is the size parameter M.
+unfoldable pub sheetReplies : Store → List Reply
+sheetReplies store =
+    let m = getD (store .counts) 0 0 in
+    sheet m (entryCount store) ∷ leafReplies store (leafSlots m) (2 ^ height m) 0 (leavesOf m)
+
+-- The answer, and the lines of the sheet where the store is one.
+unfoldable pub printReplies : ℕ → Store → List Reply
+printReplies number store = brief 133 number (entryCount store) ∷ ifEq number 0 (sheetReplies store) []
+
+unfoldable pub printLines : Outcome → Store → List Reply
+printLines o store = printReplies (returned (o .answer) .number) store
+
+-- ---- a frame, and a line
+
+-- What a frame is answered by. The first byte of an answer is the frame's plus 80 in hexadecimal: 129 to 135; 255 and cause 8 answer
+-- a line that is no frame. A read has room for 64 entries.
+unfoldable pub answerTo : Frame → List ℕ → Kept → Answered
+answerTo (Insert rank entry) line k = changed 129 k (outcome clubs (insert rank entry) (take (k .waiting) (k .tape)) (k .store) [])
+answerTo (Delete rank) line k = changed 130 k (outcome clubs (delete rank) (take (k .waiting) (k .tape)) (k .store) [])
+answerTo (Read first last) line k =
+    keeping k (readLine (outcome clubs (read first last 64) [] (k .store) (replicate 64 0)) (k .store))
+answerTo (Tape words) line k = taped line words k
+answerTo Print line k =
+    record { replies = printLines (outcome clubs check [] (k .store) []) (k .store); kept = k }
+answerTo Clear line k = cleared k (outcome clubs clear [] (k .store) [])
+answerTo (Place rank) line k =
+    keeping k (placeLine (outcome clubs (place rank) [] (k .store) []) (k .store))
+answerTo NoFrame line k = keeping k (brief 255 8 (entryCount (k .store)))
+
+-- The length of the longest answer: a print of 128 leaves of 33 slots.
+abbrev pub longest : ℕ
+longest = 69012
+
+-- What a step leaves: the number of bytes at the front of the output, what is kept, and the output.
+pub record Step : Type 0 where
+  pub bytes : ℕ
+  pub kept : Kept
+  pub output : List ℕ
+
+unfoldable pub handed : Answered → List ℕ → Step
+handed a output = record {
+  bytes = length (bytesOf (a .replies));
+  kept = a .kept;
+  output = bytesOf (a .replies) ++ drop (length (bytesOf (a .replies))) output;
+}
+
+-- One step on a line without its LF. Where the output is too short for the longest answer, the tape has not 1,024 words, or more than
+-- these are said to wait, there is no answer and nothing changes.
+unfoldable pub stepOf : List ℕ → Kept → List ℕ → Step
+stepOf line k output =
+    let nothing : Step = record { bytes = 0; kept = k; output = output } in
+    ifLt (length output) longest nothing
+    (ifEq (length (k .tape)) 1024
+    (ifLt 1024 (k .waiting) nothing (handed (answerTo (frameOf line) line k) output))
+    nothing)
