@@ -14,10 +14,10 @@ use Rattle.sizes.specs.Sizes.{candidates, windowStart, IsCandidate, Fits}
 use Rattle.sizes.specs.SizeLaws.{window-fits}
 use Rattle.sizes.specs.Fit.{fits-count, fits-halves}
 use Rattle.rules.specs.Tree.{Tree, leaf, node, Balanced}
-use Rattle.rank_tree.specs.Counts.{readTree}
+use Rattle.rank_tree.specs.Counts.{readTree, Holds}
+use Rattle.rank_tree.specs.CountLaws.{holds-count}
 use Rattle.layout.specs.Ready.{RangeToCheck, TreeToCheck}
 use Rattle.layout.specs.Check.{rangeTest, treeTest}
-use Rattle.layout.specs.CountLaws.{Holds, holds-count}
 use Rattle.layout.specs.BoolLaws.{and-both}
 
 -- ---- one range

@@ -19,9 +19,10 @@ use Rattle.rules.specs.Compare.{countAfter}
 use Rattle.rules.specs.Rules.{rankOf, atRank, InReach}
 use Rattle.rules.specs.ChangeLaws.{count-rank, rank-rank, rank-itself, right-reach, right-count, left-count}
 use Rattle.rank_tree.specs.declared.Part.{Part}
+use Rattle.rank_tree.specs.Counts.{Holds}
+use Rattle.rank_tree.specs.RangeLaws.{balanced-perfect}
 use Rattle.rank_tree.specs.Update.{Within}
 use Rattle.layout.specs.Layout.{leafCounts, layLeaves}
-use Rattle.layout.specs.CountLaws.{Holds, balanced-levels}
 use Rattle.layout.specs.LayoutLaws.{leafCounts-total, length-leafCounts, length-layLeaves, layLeaves-node}
 use Rattle.part_layout.specs.ChangeList.{changeList}
 use Rattle.part_layout.specs.Located.{IsRange, Located}
@@ -117,7 +118,7 @@ module _ (M levels d n b : ℕ) (l r : Tree) (w : IsRange M (suc levels) d n (no
 pub range-length : (M levels d n : ℕ) (t : Tree) → IsRange M levels d n t → (s : ℕ) (xs : List ℕ) → length (layLeaves s (leafCounts n t) xs) ≡ s * 2 ^ levels
 range-length M levels d n t w s xs =
     length-layLeaves s (leafCounts n t) xs
-    ∙ rw (length-leafCounts levels n t (balanced-levels M levels d n t (w .balanced)))
+    ∙ rw (length-leafCounts levels n t (balanced-perfect M levels d n t (w .balanced)))
 
 no-levels : (M d n b : ℕ) (l r : Tree) → IsRange M 0 d n (node b l r) → ⊥
 unfolding Balanced

@@ -16,13 +16,15 @@ use Rattle.rules.specs.Compare.{countAfter}
 use Rattle.rules.specs.Rules.{rankOf, atRank, InReach}
 use Rattle.rules.specs.ChangeLaws.{rank-itself}
 use Rattle.rank_tree.specs.declared.Part.{Part}
-use Rattle.rank_tree.specs.Counts.{shapeCounts}
+use Rattle.rank_tree.specs.Ranges.{Perfect}
+use Rattle.rank_tree.specs.Counts.{shapeCounts, Holds}
+use Rattle.rank_tree.specs.RangeLaws.{balanced-perfect}
 use Rattle.rank_tree.specs.Update.{Confined}
 use Rattle.layout.specs.Leaf.{nonzero}
 use Rattle.layout.specs.Layout.{Capacity, leafCounts, layLeaves, padTo, laySlots}
 use Rattle.layout.specs.Sheet.{IsContents}
 use Rattle.layout.specs.Room.{Roomy}
-use Rattle.layout.specs.CountLaws.{Holds, HasLevels, balanced-levels, length-shapeCounts, shapeCounts-holds}
+use Rattle.layout.specs.CountLaws.{length-shapeCounts, shapeCounts-holds}
 use Rattle.layout.specs.LayoutLaws.{holds-leaves, leafCounts-total, leafCounts-fit, nonzero-layLeaves}
 use Rattle.layout.specs.SheetLaws.{leaves-layOut}
 use Rattle.part_layout.specs.ChangeList.{changeList}
@@ -126,7 +128,7 @@ length-whole M rank = rw (leaves-whole M)
 
 -- ---- the counts of the part
 
-part-counts : (levels M n : ℕ) (counts : List ℕ) (t : Tree) (part : Part) → HasLevels levels t → leavesOf M (part .depth) ≡ 2 ^ levels
+part-counts : (levels M n : ℕ) (counts : List ℕ) (t : Tree) (part : Part) → Perfect levels t → leavesOf M (part .depth) ≡ 2 ^ levels
     → (part .range + 1) * 2 ^ levels ≤ length counts → Holds counts (part .range) n t → partCounts M part counts ≡ leafCounts n t
 unfolding partCounts
 part-counts levels M n counts t part has e room w = rw e (holds-leaves levels counts (part .range) n t has room w)
@@ -155,11 +157,11 @@ module _ (cap : Capacity) (roomy : Roomy cap) (list : List ℕ) (s s′ : Shape)
   counts-fit : 2 * 2 ^ height (s′ .size) ≤ cap .counts
   counts-fit = roomy .counts-fit N′ (s′ .size) few′ (shape′ .allowed)
 
-  has-levels : HasLevels (height (s′ .size)) (s′ .tree)
-  has-levels = balanced-levels (s′ .size) (height (s′ .size)) 0 N′ (s′ .tree) (shape′ .balanced)
+  is-perfect : Perfect (height (s′ .size)) (s′ .tree)
+  is-perfect = balanced-perfect (s′ .size) (height (s′ .size)) 0 N′ (s′ .tree) (shape′ .balanced)
 
   held : Holds (shapeCounts (cap .counts) N′ s′) 1 N′ (s′ .tree)
-  held = shapeCounts-holds (height (s′ .size)) (cap .counts) N′ s′ has-levels counts-fit
+  held = shapeCounts-holds (height (s′ .size)) (cap .counts) N′ s′ is-perfect counts-fit
 
   length-held : length (shapeCounts (cap .counts) N′ s′) ≡ cap .counts
   length-held = length-shapeCounts (cap .counts) N′ s′
@@ -186,7 +188,7 @@ module _ (cap : Capacity) (roomy : Roomy cap) (list : List ℕ) (s s′ : Shape)
 
   whole-counts : partCounts (s′ .size) (whole (rankOf change)) (shapeCounts (cap .counts) N′ s′) ≡ leafCounts N′ (s′ .tree)
   whole-counts =
-      part-counts (height (s′ .size)) (s′ .size) N′ (shapeCounts (cap .counts) N′ s′) (s′ .tree) (whole (rankOf change)) has-levels
+      part-counts (height (s′ .size)) (s′ .size) N′ (shapeCounts (cap .counts) N′ s′) (s′ .tree) (whole (rankOf change)) is-perfect
       (leaves-whole (s′ .size)) (rw length-held (omega (arith, counts-fit))) held
 
   whole-in : (M : ℕ) → PartIn M (whole (rankOf change))
@@ -311,7 +313,7 @@ module _ (cap : Capacity) (roomy : Roomy cap) (list : List ℕ) (s : Shape) (t�
   within-counts : partCounts M part counts′ ≡ leafCounts m′ (found .tree′)
   within-counts =
       part-counts (found .inner) M m′ counts′ (found .tree′) part
-      (balanced-levels M (found .inner) (part .depth) m′ (found .tree′) (found .new-range .balanced))
+      (balanced-perfect M (found .inner) (part .depth) m′ (found .tree′) (found .new-range .balanced))
       part-leaves
       (rw (length-held cap roomy list s s′ change e w reach shape′ few′) range-room)
       (found .held counts′ (held cap roomy list s s′ change e w reach shape′ few′))

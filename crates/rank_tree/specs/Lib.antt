@@ -1,8 +1,10 @@
--- The counts of a shape and what a change does to them: definitions first, then their laws.
+-- The ranges, the counts of a shape and what a change does to them: definitions first, then their laws.
+pub mod Ranges
 pub mod Counts
 pub mod Update
 pub mod Rebuild
 pub mod Walk
+pub mod RangeLaws
 pub mod CountLaws
 pub mod RebuildLaws
 pub mod VisitLaws

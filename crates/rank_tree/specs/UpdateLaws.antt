@@ -5,7 +5,7 @@ use mathlib.Core.List.{List, [], _∷_, _++_}
 use Prim.Native.Nat.{ℕ, zero, suc, _+_, _≤_, _<_}
 use native.Mathlib.Omega.{arith}
 use native.Mathlib.Numerals.{add-one}
-use lib.ListN.{length, set, take, replicate, replicate-append-replicate}
+use lib.ListN.{length, set, take, replicate, length-set, length-replicate, replicate-append-replicate}
 use lib.Seq.{take-all, take-suc-set}
 use Rattle.base.specs.CaseLaws.{by-eq, by-lt}
 use Rattle.shares.specs.Program.{Program, Ends}
@@ -31,11 +31,13 @@ use Rattle.rank_tree.specs.declared.Walked.{Walked}
 use Rattle.rank_tree.specs.declared.Walked.the-variants as walked
 use Rattle.rank_tree.specs.declared.Updated.{Updated}
 use Rattle.rank_tree.specs.declared.Updated.the-variants as updated
-use Rattle.rank_tree.specs.Counts.{readTree, writeTree, shapeCounts}
+use Rattle.rank_tree.specs.Counts.{readTree, writeTree, shapeCounts, Holds}
 use Rattle.rank_tree.specs.Update.{shapeIn, Ready, Confined, UpdatedAs}
 use Rattle.rank_tree.specs.Rebuild.{CanRebuild, RebuiltAs}
-use Rattle.rank_tree.specs.Walk.{Holds, CanWalk, walkRun, WalkedAs}
-use Rattle.rank_tree.specs.CountLaws.{Perfect, balanced-perfect, write-over, holds-written}
+use Rattle.rank_tree.specs.Walk.{CanWalk, walkRun, WalkedAs}
+use Rattle.rank_tree.specs.Ranges.{Perfect}
+use Rattle.rank_tree.specs.RangeLaws.{balanced-perfect}
+use Rattle.rank_tree.specs.CountLaws.{write-over, write-holds}
 
 -- ---- what the programs end with
 
@@ -136,6 +138,9 @@ module _ {change : Change} {N M : ℕ} {counts : List ℕ} (ready : Ready change
   unfolding shapeIn shapeCounts
   held = ready .held
 
+  zeros-length : length (set (replicate (length counts) 0) 0 M) ≡ length counts
+  zeros-length = length-set (replicate (length counts) 0) 0 M ∙ length-replicate (length counts) 0
+
   pub can-fresh : (M′ : ℕ) → Allowed (countAfter change N) M′ → CanRebuild M′ (height M′) 0 1 (countAfter change N) (length counts)
   can-fresh M′ a = record {
     fits = fit (countAfter change N) M′ a;
@@ -151,7 +156,7 @@ module _ {change : Change} {N M : ℕ} {counts : List ℕ} (ready : Ready change
     reach = ready .reach;
     holds =
         subst (λ (c : List ℕ). Holds c 1 N (readTree (height M) counts 1)) (sym held)
-        (holds-written (height M) (readTree (height M) counts 1) (set (replicate (length counts) 0) 0 M) 1 N (omega arith) tree-perfect);
+        (write-holds (height M) _ 1 N (readTree (height M) counts 1) tree-perfect (omega arith) (omega (arith, ready .old-room, zeros-length)));
     balanced = ready .shape .balanced;
     fits = fit N M allowed;
     can = can-fresh M a;

@@ -33,11 +33,12 @@ use Rattle.rank_tree.specs.declared.Stop.{Stop}
 use Rattle.rank_tree.specs.declared.Stop.the-variants as stop
 use Rattle.rank_tree.specs.declared.Walked.{Walked}
 use Rattle.rank_tree.specs.declared.Walked.the-variants as walked
-use Rattle.rank_tree.specs.Counts.{readTree, writeTree}
+use Rattle.rank_tree.specs.Counts.{readTree, writeTree, Holds}
 use Rattle.rank_tree.specs.Update.{Within}
 use Rattle.rank_tree.specs.Rebuild.{RebuiltAs}
-use Rattle.rank_tree.specs.Walk.{visitAt, halfOf, partOf, entriesAfter, Holds, CanWalk, walkRun, Walking, Stopped, StoppedAs, finished, WalkedAs}
-use Rattle.rank_tree.specs.CountLaws.{not-left, not-right, Perfect, balanced-perfect, holds-root, holds-set, holds-left, holds-right, write-left, write-right}
+use Rattle.rank_tree.specs.Walk.{visitAt, halfOf, partOf, entriesAfter, CanWalk, walkRun, Walking, Stopped, StoppedAs, finished, WalkedAs}
+use Rattle.rank_tree.specs.RangeLaws.{not-left, not-right}
+use Rattle.rank_tree.specs.CountLaws.{holds-count, holds-set, write-left, write-right}
 use Rattle.rank_tree.specs.RebuildLaws.{one-more, Bounds, bounds, halves-can}
 use Rattle.rank_tree.specs.VisitLaws.{visitRun, visit-run, pass-stays, enters-candidate}
 
@@ -76,15 +77,15 @@ module _ (M levels d : ℕ) (here : Change) (n b : ℕ) (l r : Tree) (tape : Lis
   unfolding walk walkBelow
   walk-node = visit-run _ _ _ tape at (compare here n (candidates M d)) (candidates M d) b
 
-  pub below-left : rankOf here ≤ b → runAt (walkBelow M levels d here n b l r) tape at
+  pub left-run : rankOf here ≤ b → runAt (walkBelow M levels d here n b l r) tape at
       ≡ afterRun (runAt (walk M levels (d + 1) here b l) tape at) (λ l′ next. ran (node (countAfter here b) l′ r) next)
   unfolding walkBelow runAt
-  below-left h = rw (ifLt-no b (rankOf here) _ _ h, add-one) (run-bind _ _ tape at)
+  left-run h = rw (ifLt-no b (rankOf here) _ _ h, add-one) (run-bind _ _ tape at)
 
-  pub below-right : b < rankOf here → runAt (walkBelow M levels d here n b l r) tape at
+  pub right-run : b < rankOf here → runAt (walkBelow M levels d here n b l r) tape at
       ≡ afterRun (runAt (walk M levels (d + 1) (atRank here (rankOf here - b)) (n - b) r) tape at) (λ r′ next. ran (node b l r′) next)
   unfolding walkBelow runAt
-  below-right h = rw (ifLt-yes b (rankOf here) _ _ h, add-one) (run-bind _ _ tape at)
+  right-run h = rw (ifLt-yes b (rankOf here) _ _ h, add-one) (run-bind _ _ tape at)
 
 -- ---- the walk at a range
 
@@ -186,24 +187,22 @@ module _ {change : Change} {N M : ℕ} {counts₀ tape : List ℕ} {whole : Ran 
   at-node : Node M levels d n (w .tree)
   at-node = take-apart M levels d n (w .tree) (w .balanced)
 
-  node-perfect : Perfect (suc levels) (node (at-node .b) (at-node .l) (at-node .r))
-  node-perfect = rw (at-node .is) at (balanced-perfect M (suc levels) d n (w .tree) (w .balanced))
-
   node-holds : Holds counts k n (node (at-node .b) (at-node .l) (at-node .r))
   node-holds = rw (at-node .is) at (w .holds)
 
   left-holds : Holds counts (2 * k) (at-node .b) (at-node .l)
-  left-holds = holds-left counts k n (at-node .b) (at-node .l) (at-node .r) (w .positive) levels node-perfect node-holds
+  unfolding Holds
+  left-holds = node-holds .1
 
   right-holds : Holds counts (2 * k + 1) (n - at-node .b) (at-node .r)
-  right-holds = holds-right counts k n (at-node .b) (at-node .l) (at-node .r) (w .positive) levels node-perfect node-holds
+  unfolding Holds
+  right-holds = node-holds .2
 
   pub node-bounds : Bounds M d k (length counts)
   node-bounds = bounds (w .can)
 
   balance : getD counts (2 * k) 0 ≡ at-node .b
-  balance =
-      holds-root (at-node .l) counts (2 * k) (at-node .b) (omega (arith, w .positive)) (omega (arith, node-bounds .below)) left-holds
+  balance = holds-count counts (2 * k) (at-node .b) (at-node .l) left-holds
 
   pub balance-below : getD counts (2 * k) 0 < n
   balance-below = rw balance (candidate-below n (candidates M d) (at-node .b) (comparable .before) (at-node .candidate))
@@ -266,7 +265,7 @@ module _ {change : Change} {N M : ℕ} {counts₀ tape : List ℕ} {whole : Ran 
             plug = λ t. w .plug (node (countAfter here (at-node .b)) t (at-node .r));
             run =
                 onward-run
-                ∙ rw (below-left M levels d here n (at-node .b) (at-node .l) (at-node .r) tape next h)
+                ∙ rw (left-run M levels d here n (at-node .b) (at-node .l) (at-node .r) tape next h)
                 (after-plug (runAt (walk M levels (d + 1) here (at-node .b) (at-node .l)) tape next) _ (w .plug));
             written = λ t.
                 w .written (node (countAfter here (at-node .b)) t (at-node .r))
@@ -298,7 +297,7 @@ module _ {change : Change} {N M : ℕ} {counts₀ tape : List ℕ} {whole : Ran 
             plug = λ t. w .plug (node (at-node .b) (at-node .l) t);
             run =
                 onward-run
-                ∙ rw (below-right M levels d here n (at-node .b) (at-node .l) (at-node .r) tape next h)
+                ∙ rw (right-run M levels d here n (at-node .b) (at-node .l) (at-node .r) tape next h)
                 (after-plug (runAt (walk M levels (d + 1) (atRank here (rankOf here - at-node .b)) (n - at-node .b) (at-node .r)) tape next) _ (w .plug));
             written = λ t.
                 w .written (node (at-node .b) (at-node .l) t)
