@@ -123,9 +123,9 @@ StoppedAs change N M counts₀ tape whole (stop.Enter range into next) counts =
 StoppedAs change N M counts₀ tape whole stop.Ended counts = whole ≡ ended
 
 -- The walk that stopped at this range, by what its rebuilding came to.
-unfoldable pub finished : Range → Rebuilt → Walked
-finished range (rebuilt.Done next) = walked.Done (partOf range) next
-finished range rebuilt.Ended = walked.Ended
+unfoldable pub walkAnswer : Range → Rebuilt → Walked
+walkAnswer range (rebuilt.Done next) = walked.Done (partOf range) next
+walkAnswer range rebuilt.Ended = walked.Ended
 
 -- The answer and the counts after the walk, by its run. Where the tape ended nothing is said of the counts.
 unfoldable pub WalkedAs : Change → ℕ → Tree → List ℕ → Ran Tree → Walked → List ℕ → Type 0
