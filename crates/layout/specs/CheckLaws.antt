@@ -9,7 +9,8 @@ use lib.Seq.{length-take-le, take-at, drop-at, take-add}
 use native.Mathlib.Nat.{one-mul}
 use native.Mathlib.Omega.{arith}
 use borrow.Author.Tests.{le-leb, leb-true}
-use Rattle.base.specs.Lists.{Every}
+use Rattle.base.specs.Lists.{Every, total}
+use Rattle.base.specs.BoolLaws.{and-both, tests-agree}
 use Rattle.base.specs.ListLaws.{every-take, every-drop}
 use Rattle.sizes.specs.Sizes.{height, leafSlots, slots}
 use Rattle.sizes.specs.Fit.{fit}
@@ -20,9 +21,8 @@ use Rattle.rank_tree.specs.CountLaws.{read-perfect}
 use Rattle.layout.specs.Leaf.{spread, nonzero}
 use Rattle.layout.specs.Layout.{Capacity, Store, leafCounts, layLeaves, padTo, countOrder, laySlots, layCounts, layOut}
 use Rattle.layout.specs.Sheet.{IsContents, IsSheet, sheetTest}
-use Rattle.layout.specs.Room.{Roomy, total}
+use Rattle.layout.specs.Room.{Roomy}
 use Rattle.layout.specs.Check.{allZero, leafTest, leavesTest, treeTest, countsTest, slotsTest, storeTest}
-use Rattle.layout.specs.BoolLaws.{and-both, same-test}
 use Rattle.layout.specs.LeafLaws.{nonzero-positive, length-spread, nonzero-append}
 use Rattle.layout.specs.CountLaws.{length-shapeCounts, shapeCounts-holds, shapeCounts-only, shapeCounts-size, shapeCounts-total, shapeCounts-unused}
 use Rattle.layout.specs.LayoutLaws.{length-leafCounts, holds-leaves, leafCounts-total, leafCounts-fit, length-layLeaves}
@@ -221,6 +221,6 @@ module _ (entries : ℕ) (all counts : List ℕ) where
 
     pub store-test : storeTest entries store ≡ sheetTest capacity store
     store-test =
-        same-test (storeTest entries store) (sheetTest capacity store)
+        tests-agree (storeTest entries store) (sheetTest capacity store)
         (λ h. sheet-test capacity roomy store (store-sound h))
         (λ h. let w = test-sheet capacity store h in rw (w .laid) (layOut-test capacity roomy (w .list) (w .shape) (w .valid)))

@@ -1,5 +1,5 @@
 -- Laws of the counts of a shape: what stands at each range number, and that no other counts hold the same. Assumes nothing.
-use mathlib.Core.Path.{_≡_, refl, sym, _∙_}
+use mathlib.Core.Path.{_≡_, sym, _∙_}
 use mathlib.Core.List.{List}
 use mathlib.Core.Logic.{⊎-elim}
 use Prim.Native.Nat.{ℕ, zero, suc, _*_, _^_, _≤_, _<_}
@@ -8,16 +8,12 @@ use lib.Pow.{pow-pos, pow-mono}
 use lib.Seq.{getD-set-same, getD-set-other, ext-getD}
 use native.Mathlib.Omega.{arith}
 use Rattle.base.specs.CaseLaws.{lt-or-ge}
+use Rattle.base.specs.ListLaws.{replicate-at}
 use Rattle.rules.specs.Tree.{Shape}
 use Rattle.rank_tree.specs.Ranges.{Perfect}
 use Rattle.rank_tree.specs.Counts.{readTree, shapeCounts, Holds}
 use Rattle.rank_tree.specs.RangeLaws.{below-least, below-root}
 use Rattle.rank_tree.specs.CountLaws.{holds-count, holds-read, holds-agree, length-write, write-other, write-holds}
-
-pub zeros-at : (n i : ℕ) → getD {A = ℕ} (replicate n 0) i 0 ≡ 0
-zeros-at zero i = refl
-zeros-at (suc n) zero = refl
-zeros-at (suc n) (suc i) = zeros-at n i
 
 module _ (room N : ℕ) (s : Shape) where
   pub length-shapeCounts : length (shapeCounts room N s) ≡ room
@@ -52,7 +48,7 @@ module _ (levels room N : ℕ) (s : Shape) (has : Perfect levels (s .tree)) (fit
       write-other levels (set (replicate room 0) 0 (s .size)) 1 N (s .tree) j has
       (λ d l u. omega (arith, u .before, pow-mono l))
       ∙ getD-set-other (replicate room 0) 0 j (s .size) 0 (λ e. omega (arith, pow-pos levels))
-      ∙ zeros-at room j
+      ∙ replicate-at 0 room j
 
   -- A list of counts that holds the same, with 0 at every number not in use, is this one.
   pub shapeCounts-only : (counts : List ℕ) → length counts ≡ room → getD counts 0 0 ≡ s .size → Holds counts 1 N (s .tree)

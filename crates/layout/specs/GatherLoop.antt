@@ -6,9 +6,9 @@ use lib.ListN.{length, getD, set, take, drop, length-append, take-append-drop}
 use lib.Seq.{append-snoc, take-suc, take-all, drop-cons, set-at}
 use native.Mathlib.Numerals.{add-one}
 use native.Mathlib.Omega.{arith}
+use Rattle.base.specs.ListLaws.{length-part, part-at}
 use Rattle.layout.specs.Leaf.{nonzero}
 use Rattle.layout.specs.Ready.{GatherReady, Gathered}
-use Rattle.layout.specs.ListLaws.{length-part, part-at}
 use Rattle.layout.specs.LeafLaws.{nonzero-append, nonzero-zero, nonzero-entry}
 
 nonzero-nil : nonzero [] ≡ []
@@ -35,7 +35,7 @@ module _ {slots : List ℕ} {from len : ℕ} {old : List ℕ} (ready : GatherRea
         rw (
           add-one i,
           take-suc part i 0 (omega (arith, length-part slots from len (ready .slots-room))),
-          part-at slots from len i more,
+          part-at slots from len i 0 more,
           nonzero-append (take i part),
         )
 

@@ -6,8 +6,8 @@ use lib.ListN.{length, take, drop, length-append, length-drop, take-append-drop}
 use lib.Seq.{take-add, take-take, drop-drop, drop-cons, length-take-le}
 use native.Mathlib.Nat.{pow-succ'}
 use native.Mathlib.Omega.{arith}
-use Rattle.base.specs.Lists.{Every}
-use Rattle.base.specs.ListLaws.{every-append, every-take, every-drop}
+use Rattle.base.specs.Lists.{Every, total}
+use Rattle.base.specs.ListLaws.{every-append, every-take, every-drop, drop-take, total-append}
 use Rattle.sizes.specs.Sizes.{candidates, leafSlots, Fits}
 use Rattle.sizes.specs.SizeLaws.{candidate-below}
 use Rattle.sizes.specs.Fit.{fits-count, fits-halves, fits-leaf}
@@ -16,8 +16,6 @@ use Rattle.rank_tree.specs.Ranges.{Perfect}
 use Rattle.rank_tree.specs.Counts.{Holds}
 use Rattle.layout.specs.Leaf.{spread, nonzero}
 use Rattle.layout.specs.Layout.{leafCounts, layLeaves}
-use Rattle.layout.specs.Room.{total}
-use Rattle.layout.specs.ListLaws.{drop-take, total-append}
 use Rattle.layout.specs.LeafLaws.{length-spread, nonzero-append, nonzero-spread}
 
 -- ---- the numbers of entries of the leaves

@@ -14,12 +14,11 @@ use borrow.Author.Tests.{eq-eqb, eqb-true}
 use Rattle.base.specs.Cases.{ifLt}
 use Rattle.base.specs.CaseLaws.{lt-or-ge}
 use Rattle.base.specs.Lists.{Every}
-use Rattle.base.specs.ListLaws.{and-true-left, and-true-right, equal-itself, equal-sound}
+use Rattle.base.specs.BoolLaws.{not-true-false, and-true-left, and-true-right}
+use Rattle.base.specs.ListLaws.{equal-itself, equal-sound, every-getD, length-part, part-at}
 use Rattle.layout.specs.Leaf.{slotOf, Positions, spread, nonzero}
 use Rattle.layout.specs.Ready.{LeafToCheck}
 use Rattle.layout.specs.Check.{leafTest}
-use Rattle.layout.specs.BoolLaws.{not-true-false}
-use Rattle.layout.specs.ListLaws.{every-at, length-part, part-at}
 use Rattle.layout.specs.LeafLaws.{slotOf-positions, nonzero-positive, length-spread, spread-entry, spread-gap, nonzero-spread}
 use Rattle.layout.specs.LeafLoop.{Passed, passed-none, passed-entry, passed-gap, entry-left, entry-here, gap-here}
 
@@ -100,7 +99,7 @@ module _ {slots : List ℕ} {from s n : ℕ} (ready : LeafToCheck slots from s n
         = ext-getD 0 leaf (spread s entries) (length-part slots from s (ready .slots-room) ∙ sym (length-spread s entries))
         (λ j l.
         let inside : j < s = omega (arith, length-part slots from s (ready .slots-room)) in
-        part-at slots from s j inside ∙ w .same j (omega arith)) in
+        part-at slots from s j 0 inside ∙ w .same j (omega arith)) in
         let positive : Every (λ x. 0 < x) entries
         = values-every (λ x. 0 < x) (λ k. getD slots (from + slotOf s n k) 0) 0 n
         (λ j low high. omega (arith, entry-at j (omega arith), w .entries j (omega arith))) in
@@ -143,8 +142,8 @@ module _ {slots : List ℕ} {from s n : ℕ} (ready : LeafToCheck slots from s n
           ∙ rw (entry-here (w .passed) more e) (spread-entry s n (nonzero leaf) (sound .0) (ready .fit) k left) in
           omega (
             arith,
-            part-at slots from s i more,
-            every-at (λ x. 0 < x) (nonzero leaf) (nonzero-positive leaf) k (omega (arith, sound .0)),
+            part-at slots from s i 0 more,
+            every-getD (λ x. 0 < x) (nonzero leaf) k 0 (nonzero-positive leaf) (omega (arith, sound .0)),
           ))
 
       -- An entry stands in a gap.
@@ -155,4 +154,4 @@ module _ {slots : List ℕ} {from s n : ℕ} (ready : LeafToCheck slots from s n
           let here : getD leaf i 0 ≡ 0
           = ap (λ (l : List ℕ). getD l i 0) (sound .1)
           ∙ spread-gap s n (nonzero leaf) (sound .0) i more (gap-here (w .passed) more (slotOf-positions s n (ready .fit)) ne) in
-          omega (arith, part-at slots from s i more))
+          omega (arith, part-at slots from s i 0 more))

@@ -6,8 +6,6 @@ pub mod Room
 pub mod Ready
 pub mod Check
 pub mod Examples
-pub mod ListLaws
-pub mod BoolLaws
 pub mod LeafLaws
 pub mod CountLaws
 pub mod LayoutLaws

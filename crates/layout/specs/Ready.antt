@@ -3,10 +3,9 @@ use mathlib.Core.Path.{_≡_}
 use mathlib.Core.List.{List, _++_}
 use Prim.Native.Nat.{ℕ, _+_, _*_, _^_, _≤_, _<_}
 use lib.ListN.{length, getD, take, drop}
-use Rattle.base.specs.Lists.{Every}
+use Rattle.base.specs.Lists.{Every, total}
 use Rattle.sizes.specs.Sizes.{Allowed, height, leafSlots, slots, candidates, Fits}
 use Rattle.layout.specs.Leaf.{nonzero}
-use Rattle.layout.specs.Room.{total}
 
 -- A leaf of s slots from `from` on, for the n entries of a list from `at` on.
 pub record LeafReady (slots : List ℕ) (from s : ℕ) (list : List ℕ) (at n : ℕ) : Type 0 where

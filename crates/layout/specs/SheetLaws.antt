@@ -10,6 +10,7 @@ use lib.ListN.{length, replicate, length-append, length-replicate}
 use native.Mathlib.Omega.{arith}
 use borrow.Author.Tests.{le-leb, lt-ltb, leb-true, ltb-true}
 use Rattle.base.specs.Lists.{equalLists}
+use Rattle.base.specs.BoolLaws.{and-both, true-or-false}
 use Rattle.base.specs.ListLaws.{equal-itself, equal-sound}
 use Rattle.sizes.specs.Sizes.{height, leafSlots, slots, candidates, windowStart, Fits}
 use Rattle.sizes.specs.Fit.{fit}
@@ -20,7 +21,6 @@ use Rattle.layout.specs.Leaf.{nonzero}
 use Rattle.layout.specs.Layout.{Capacity, Store, leafCounts, layLeaves, padTo, countOrder, laySlots, layCounts, layOut}
 use Rattle.layout.specs.Sheet.{IsContents, IsSheet, listOf, shapeOf, balancedTest, shapeTest, sheetTest, Contents, decode}
 use Rattle.layout.specs.Room.{Roomy}
-use Rattle.layout.specs.BoolLaws.{and-both, true-or-false}
 use Rattle.layout.specs.LeafLaws.{nonzero-positive, nonzero-append, nonzero-zeros}
 use Rattle.layout.specs.CountLaws.{length-shapeCounts, shapeCounts-read, shapeCounts-size}
 use Rattle.layout.specs.LayoutLaws.{length-leafCounts, leafCounts-total, leafCounts-fit, length-layLeaves, nonzero-layLeaves}

@@ -10,6 +10,7 @@ use native.Mathlib.Nat.{mul-le-mul-left, pow-succ'}
 use native.Mathlib.Numerals.{add-one}
 use native.Mathlib.Omega.{arith}
 use borrow.Author.Tests.{eq-eqb, eqb-true, le-leb, leb-true, lt-leb, lt-ltb, ltb-true, le-ltb}
+use Rattle.base.specs.BoolLaws.{and-both}
 use Rattle.sizes.specs.Sizes.{candidates, windowStart, IsCandidate, Fits}
 use Rattle.sizes.specs.SizeLaws.{window-fits}
 use Rattle.sizes.specs.Fit.{fits-count, fits-halves}
@@ -18,7 +19,6 @@ use Rattle.rank_tree.specs.Counts.{readTree, Holds}
 use Rattle.rank_tree.specs.CountLaws.{holds-count}
 use Rattle.layout.specs.Ready.{RangeToCheck, TreeToCheck}
 use Rattle.layout.specs.Check.{rangeTest, treeTest}
-use Rattle.layout.specs.BoolLaws.{and-both}
 
 -- ---- one range
 

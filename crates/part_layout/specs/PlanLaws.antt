@@ -2,12 +2,13 @@
 use mathlib.Core.Path.{_≡_, refl, sym, _∙_, ap, subst}
 use mathlib.Core.Logic.{⊎-elim}
 use mathlib.Core.List.{List, _++_, append-assoc, append-nil}
-use Prim.Native.Nat.{ℕ, zero, suc, _+_, _-_, _*_, _^_, _≤_, max}
+use Prim.Native.Nat.{ℕ, _+_, _-_, _*_, _^_, _≤_, max}
 use native.Mathlib.Omega.{arith}
-use native.Mathlib.Nat.{mul-le-mul-right, zero-add, zero-mul, mul-zero, sub-zero, zero-sub, suc-sub-suc, sub-self}
+use native.Mathlib.Nat.{mul-le-mul-right, zero-add, zero-mul, mul-zero, sub-zero, sub-self}
 use lib.Pow.{pow-add}
 use lib.ListN.{length, take, drop, replicate, length-append, length-replicate, length-take, length-drop, take-append-drop, replicate-append-replicate}
 use lib.Seq.{take-at, take-append-seam, drop-append-seam, drop-append-add, drop-at, length-take-le}
+use Rattle.base.specs.ListLaws.{drop-replicate}
 use Rattle.sizes.specs.Sizes.{height, leafSlots, slots}
 use Rattle.sizes.specs.Fit.{fit}
 use Rattle.rules.specs.declared.Change.{Change}
@@ -35,11 +36,6 @@ use Rattle.part_layout.specs.LocatedLaws.{range-length, located}
 use Rattle.part_layout.specs.Plan.{partFrom, partLength, partCounts, zeroed, PartIn, Plan}
 
 -- ---- lists
-
-drop-zeros : (k n : ℕ) → drop k (replicate n 0) ≡ replicate {A = ℕ} (n - k) 0
-drop-zeros zero n = rw (sub-zero n)
-drop-zeros (suc k) zero = rw (zero-sub (suc k))
-drop-zeros (suc k) (suc n) = rw (suc-sub-suc n k) (drop-zeros k n)
 
 zeroed-none : (k : ℕ) (xs : List ℕ) → zeroed k k xs ≡ xs
 unfolding zeroed
@@ -105,24 +101,24 @@ put-whole old new room h l =
         let few : a ≤ length (old ++ Z) = simp (length-append, length-replicate) (omega arith) in
         let at : length old + (b - length old) ≡ b = omega arith in
         let tail : drop b (old ++ Z) ≡ replicate (room - length old - (b - length old)) 0
-        = ap (λ (k : ℕ). drop k (old ++ Z)) (sym at) ∙ drop-append-add old Z (b - length old) ∙ drop-zeros (b - length old) (room - length old) in
+        = ap (λ (k : ℕ). drop k (old ++ Z)) (sym at) ∙ drop-append-add old Z (b - length old) ∙ drop-replicate 0 (b - length old) (room - length old) in
         let sum : b - a + (room - length old - (b - length old)) ≡ room - a = omega arith in
         append-drop a b few ∙ rw (tail, replicate-append-replicate {A = ℕ} (b - a) (room - length old - (b - length old)) 0, sum)
 
 -- ---- the whole sheet as a part
 
-abbrev whole : ℕ → Part
-whole rank = record { range = 1; depth = 0; rank = rank }
+abbrev wholeSheet : ℕ → Part
+wholeSheet rank = record { range = 1; depth = 0; rank = rank }
 
 leaves-whole : (M : ℕ) → leavesOf M 0 ≡ 2 ^ height M
 unfolding leavesOf
 leaves-whole M = rw (sub-zero (height M))
 
-from-whole : (M rank : ℕ) → partFrom M (whole rank) ≡ 0
+from-whole : (M rank : ℕ) → partFrom M (wholeSheet rank) ≡ 0
 unfolding partFrom leavesBefore
 from-whole M rank = rw (zero-mul (leavesOf M 0)) (mul-zero (leafSlots M))
 
-length-whole : (M rank : ℕ) → partLength M (whole rank) ≡ slots M
+length-whole : (M rank : ℕ) → partLength M (wholeSheet rank) ≡ slots M
 unfolding partLength slots
 length-whole M rank = rw (leaves-whole M)
 
@@ -186,12 +182,12 @@ module _ (cap : Capacity) (roomy : Roomy cap) (list : List ℕ) (s s′ : Shape)
 
   -- ---- the change is not confined to less than the whole sheet
 
-  whole-counts : partCounts (s′ .size) (whole (rankOf change)) (shapeCounts (cap .counts) N′ s′) ≡ leafCounts N′ (s′ .tree)
+  whole-counts : partCounts (s′ .size) (wholeSheet (rankOf change)) (shapeCounts (cap .counts) N′ s′) ≡ leafCounts N′ (s′ .tree)
   whole-counts =
-      part-counts (height (s′ .size)) (s′ .size) N′ (shapeCounts (cap .counts) N′ s′) (s′ .tree) (whole (rankOf change)) is-perfect
+      part-counts (height (s′ .size)) (s′ .size) N′ (shapeCounts (cap .counts) N′ s′) (s′ .tree) (wholeSheet (rankOf change)) is-perfect
       (leaves-whole (s′ .size)) (rw length-held (omega (arith, counts-fit))) held
 
-  whole-in : (M : ℕ) → PartIn M (whole (rankOf change))
+  whole-in : (M : ℕ) → PartIn M (wholeSheet (rankOf change))
   whole-in M = record { depth-most = omega arith; range-least = omega arith; range-most = omega arith }
 
   whole-gathered : nonzero (take (slots (s .size)) (laySlots (cap .slots) list s)) ≡ list
@@ -207,7 +203,7 @@ module _ (cap : Capacity) (roomy : Roomy cap) (list : List ℕ) (s s′ : Shape)
       rw (← old-length, ← new-length)
       (put-whole old-leaves new-leaves (cap .slots) (omega (arith, old-length, old-fits)) (omega (arith, new-length, new-fits)))
 
-  whole-plan : Plan (cap .slots) (cap .counts) list s s′ change e (whole (rankOf change))
+  whole-plan : Plan (cap .slots) (cap .counts) list s s′ change e (wholeSheet (rankOf change))
   whole-plan = record {
     old-part = whole-in (s .size);
     new-part = whole-in (s′ .size);
@@ -389,7 +385,7 @@ pub plan : (cap : Capacity) (roomy : Roomy cap) (list : List ℕ) (s s′ : Shap
 unfolding Confined
 plan cap roomy list s s′ change e part w reach shape′ few′ confined =
     ⊎-elim
-    (λ (at : part ≡ whole (rankOf change)). rw at (whole-plan cap roomy list s s′ change e w reach shape′ few′))
+    (λ (at : part ≡ wholeSheet (rankOf change)). rw at (whole-plan cap roomy list s s′ change e w reach shape′ few′))
     (λ inside.
     let p : s′ ≡ record { size = s .size; tree = s′ .tree } = λ i. record { size = inside .0 i; tree = s′ .tree } in
     let shape = subst (λ (u : Shape). IsShape (countAfter change (length list)) u) p shape′ in
