@@ -26,7 +26,7 @@ fn next_slot(s: usize, n: usize, k: usize) -> usize
 }
 
 // Writes n entries of the list, from `at` on, into s slots from `from` on: each slot once, from left to right, an entry or 0.
-pub fn spread_leaf(slots: &mut [u64], from: usize, s: usize, list: &[u64], at: usize, n: usize)
+fn spread_leaf(slots: &mut [u64], from: usize, s: usize, list: &[u64], at: usize, n: usize)
     requires { ⌜ LeafReady (now slots) from s (now list) at n ⌝ }
     ensures { λ r. ⌜ now (slots .exit)
         ≡ take from (now (slots .entry))

@@ -38,7 +38,7 @@ pub enum Rebuilt {
 
 // Rebuilds the range k at `depth`, `levels` above the leaves, for n entries: its balance entry is drawn, then its left half and then its
 // right half are rebuilt in the same way.
-pub fn rebuild(
+fn rebuild(
     size: Size,
     levels: usize,
     depth: usize,
