@@ -18,13 +18,13 @@ use Rattle.rules.specs.Tree.{Tree, Shape, IsShape}
 use Rattle.rank_tree.specs.Counts.{readTree, shapeCounts, Holds}
 use Rattle.rank_tree.specs.RangeLaws.{balanced-perfect}
 use Rattle.rank_tree.specs.CountLaws.{read-perfect}
+use Rattle.rank_tree.specs.ShapeCountLaws.{length-shapeCounts, shapeCounts-holds, shapeCounts-only, shapeCounts-size, shapeCounts-total, shapeCounts-unused}
 use Rattle.layout.specs.Leaf.{spread, nonzero}
 use Rattle.layout.specs.Layout.{Capacity, Store, leafCounts, layLeaves, padTo, countOrder, laySlots, layCounts, layOut}
 use Rattle.layout.specs.Sheet.{IsContents, IsSheet, sheetTest}
 use Rattle.layout.specs.Room.{Roomy}
 use Rattle.layout.specs.Check.{allZero, leafTest, leavesTest, treeTest, countsTest, slotsTest, storeTest}
 use Rattle.layout.specs.LeafLaws.{nonzero-positive, length-spread, nonzero-append}
-use Rattle.layout.specs.CountLaws.{length-shapeCounts, shapeCounts-holds, shapeCounts-only, shapeCounts-size, shapeCounts-total, shapeCounts-unused}
 use Rattle.layout.specs.LayoutLaws.{length-leafCounts, holds-leaves, leafCounts-total, leafCounts-fit, length-layLeaves}
 use Rattle.layout.specs.SheetLaws.{sheet-test, test-sheet}
 use Rattle.layout.specs.ZeroLaws.{zero-behind, zero-behind-test, zero-sound, zero-test}

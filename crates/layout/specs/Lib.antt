@@ -7,7 +7,6 @@ pub mod Ready
 pub mod Check
 pub mod Examples
 pub mod LeafLaws
-pub mod CountLaws
 pub mod LayoutLaws
 pub mod SheetLaws
 pub mod LeafLoop

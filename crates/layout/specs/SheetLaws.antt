@@ -17,12 +17,12 @@ use Rattle.sizes.specs.Fit.{fit}
 use Rattle.rules.specs.Tree.{Tree, leaf, node, Balanced, Shape, IsShape}
 use Rattle.rank_tree.specs.Ranges.{Perfect}
 use Rattle.rank_tree.specs.RangeLaws.{balanced-perfect}
+use Rattle.rank_tree.specs.ShapeCountLaws.{length-shapeCounts, shapeCounts-read, shapeCounts-size}
 use Rattle.layout.specs.Leaf.{nonzero}
 use Rattle.layout.specs.Layout.{Capacity, Store, leafCounts, layLeaves, padTo, countOrder, laySlots, layCounts, layOut}
 use Rattle.layout.specs.Sheet.{IsContents, IsSheet, listOf, shapeOf, balancedTest, shapeTest, sheetTest, Contents, decode}
 use Rattle.layout.specs.Room.{Roomy}
 use Rattle.layout.specs.LeafLaws.{nonzero-positive, nonzero-append, nonzero-zeros}
-use Rattle.layout.specs.CountLaws.{length-shapeCounts, shapeCounts-read, shapeCounts-size}
 use Rattle.layout.specs.LayoutLaws.{length-leafCounts, leafCounts-total, leafCounts-fit, length-layLeaves, nonzero-layLeaves}
 
 -- ---- the tests and what they test

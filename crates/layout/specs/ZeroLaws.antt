@@ -25,10 +25,10 @@ zero-sound (x ∷ xs) h =
     ap₂ (λ (y : ℕ) (ys : List ℕ). y ∷ ys) (eqb-true x 0 (and-true-left (eqb x 0) (allZero xs) h))
     (zero-sound xs (and-true-right (eqb x 0) (allZero xs) h))
 
-zero-everywhere : (xs : List ℕ) → ((i : ℕ) → getD xs i 0 ≡ 0) → allZero xs ≡ true
+zero-all : (xs : List ℕ) → ((i : ℕ) → getD xs i 0 ≡ 0) → allZero xs ≡ true
 unfolding allZero
-zero-everywhere [] h = refl
-zero-everywhere (x ∷ xs) h = rw (eq-eqb x 0 (h 0), zero-everywhere xs (λ i. h (suc i)))
+zero-all [] h = refl
+zero-all (x ∷ xs) h = rw (eq-eqb x 0 (h 0), zero-all xs (λ i. h (suc i)))
 
 -- ---- from the place i on
 
@@ -42,7 +42,7 @@ module _ (xs : List ℕ) (i : ℕ) where
       ∙ replicate-at 0 (length (drop i xs)) (j - i))
 
   pub zero-behind-test : ((j : ℕ) → i ≤ j → getD xs j 0 ≡ 0) → allZero (drop i xs) ≡ true
-  zero-behind-test h = zero-everywhere (drop i xs) (λ j. getD-drop i xs j 0 ∙ h (i + j) (omega arith))
+  zero-behind-test h = zero-all (drop i xs) (λ j. getD-drop i xs j 0 ∙ h (i + j) (omega arith))
 
   pub zero-end : length xs ≤ i → allZero (drop i xs) ≡ true
   unfolding allZero

@@ -19,10 +19,10 @@ use Rattle.rank_tree.specs.declared.Updated.{Updated}
 use Rattle.rank_tree.specs.declared.Updated.the-variants as updated
 use Rattle.rank_tree.specs.Counts.{readTree, shapeCounts}
 use Rattle.rank_tree.specs.RangeLaws.{balanced-perfect}
+use Rattle.rank_tree.specs.ShapeCountLaws.{length-shapeCounts, shapeCounts-read}
 use Rattle.rank_tree.specs.Update.{shapeIn, Ready, Confined, UpdatedAs}
 use Rattle.layout.specs.Layout.{Store, countOrder, laySlots, layCounts, layOut}
 use Rattle.layout.specs.Sheet.{IsContents, Contents, decode}
-use Rattle.layout.specs.CountLaws.{length-shapeCounts, shapeCounts-read}
 use Rattle.layout.specs.SheetLaws.{decode-sound, length-slots}
 use Rattle.part_layout.specs.ChangeList.{changeList}
 use Rattle.part_layout.specs.ChangeListLaws.{length-changed}

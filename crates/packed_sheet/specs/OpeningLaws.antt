@@ -11,10 +11,10 @@ use lib.ListN.{length, getD}
 use Rattle.sizes.specs.Sizes.{height}
 use Rattle.sizes.specs.Capacity.{slots-2047, counts-2047}
 use Rattle.rank_tree.specs.RangeLaws.{balanced-perfect}
+use Rattle.rank_tree.specs.ShapeCountLaws.{shapeCounts-total}
 use Rattle.layout.specs.Layout.{Store, countOrder, layCounts, layOut}
 use Rattle.layout.specs.Sheet.{listOf, shapeOf, sheetTest}
 use Rattle.layout.specs.Room.{Roomy}
-use Rattle.layout.specs.CountLaws.{shapeCounts-total}
 use Rattle.layout.specs.SheetLaws.{test-sound, decode-true, decode-false}
 use Rattle.packed_sheet.specs.declared.Cause.the-variants.{Lengths, NotASheet}
 use Rattle.packed_sheet.specs.declared.Opened.the-variants as opened

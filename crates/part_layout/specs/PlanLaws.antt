@@ -20,12 +20,12 @@ use Rattle.rank_tree.specs.declared.Part.{Part}
 use Rattle.rank_tree.specs.Ranges.{Perfect}
 use Rattle.rank_tree.specs.Counts.{shapeCounts, Holds}
 use Rattle.rank_tree.specs.RangeLaws.{balanced-perfect}
+use Rattle.rank_tree.specs.ShapeCountLaws.{length-shapeCounts, shapeCounts-holds}
 use Rattle.rank_tree.specs.Update.{Confined}
 use Rattle.layout.specs.Leaf.{nonzero}
 use Rattle.layout.specs.Layout.{Capacity, leafCounts, layLeaves, padTo, laySlots}
 use Rattle.layout.specs.Sheet.{IsContents}
 use Rattle.layout.specs.Room.{Roomy}
-use Rattle.layout.specs.CountLaws.{length-shapeCounts, shapeCounts-holds}
 use Rattle.layout.specs.LayoutLaws.{holds-leaves, leafCounts-total, leafCounts-fit, nonzero-layLeaves}
 use Rattle.layout.specs.SheetLaws.{leaves-layOut}
 use Rattle.part_layout.specs.ChangeList.{changeList}

@@ -6,6 +6,7 @@ pub mod Rebuild
 pub mod Walk
 pub mod RangeLaws
 pub mod CountLaws
+pub mod ShapeCountLaws
 pub mod RebuildLaws
 pub mod VisitLaws
 pub mod WalkLaws

@@ -5,7 +5,7 @@ use mathlib.Core.List.{List, [], _∷_, _++_}
 use Prim.Native.Nat.{ℕ, _+_, _<_}
 use native.Mathlib.Omega.{arith}
 use native.Mathlib.Numerals.{add-one}
-use lib.ListN.{length, set, take, replicate, length-set, length-replicate, replicate-append-replicate}
+use lib.ListN.{length, set, take, replicate, replicate-append-replicate}
 use lib.Seq.{take-all, take-suc-set}
 use Rattle.shares.specs.Tape.{Ran, ran, ended, runAt, afterRun}
 use Rattle.shares.specs.TapeLaws.{run-bind, run-ends}
@@ -32,7 +32,8 @@ use Rattle.rank_tree.specs.Rebuild.{CanRebuild, RebuiltAs}
 use Rattle.rank_tree.specs.Walk.{CanWalk, walkRun, WalkedAs}
 use Rattle.rank_tree.specs.Ranges.{Perfect}
 use Rattle.rank_tree.specs.RangeLaws.{balanced-perfect}
-use Rattle.rank_tree.specs.CountLaws.{write-over, write-holds}
+use Rattle.rank_tree.specs.CountLaws.{write-over}
+use Rattle.rank_tree.specs.ShapeCountLaws.{shapeCounts-holds}
 
 -- ---- all counts zero
 
@@ -93,9 +94,6 @@ module _ {change : Change} {N M : ℕ} {counts : List ℕ} (ready : Ready change
   unfolding shapeIn shapeCounts
   held = ready .held
 
-  zeros-length : length (set (replicate (length counts) 0) 0 M) ≡ length counts
-  zeros-length = length-set (replicate (length counts) 0) 0 M ∙ length-replicate (length counts) 0
-
   pub can-fresh : (M′ : ℕ) → Allowed (countAfter change N) M′ → CanRebuild M′ (height M′) 0 1 (countAfter change N) (length counts)
   can-fresh M′ a = record {
     fits = fit (countAfter change N) M′ a;
@@ -110,8 +108,8 @@ module _ {change : Change} {N M : ℕ} {counts : List ℕ} (ready : Ready change
   can-walk a = record {
     reach = ready .reach;
     holds =
-        subst (λ (c : List ℕ). Holds c 1 N (readTree (height M) counts 1)) (sym held)
-        (write-holds (height M) _ 1 N (readTree (height M) counts 1) tree-perfect (omega arith) (omega (arith, ready .old-room, zeros-length)));
+        subst (λ (c : List ℕ). Holds c 1 N (readTree (height M) counts 1)) (sym (ready .held))
+        (shapeCounts-holds (height M) (length counts) N (shapeIn M counts) tree-perfect (ready .old-room));
     balanced = ready .shape .balanced;
     fits = fit N M allowed;
     can = can-fresh M a;
