@@ -127,32 +127,30 @@ fn leaf_is_spread(slots: &[u64], from: usize, s: usize, n: usize) -> bool
     true
 }
 
-// Every slot from `from` on is 0.
+// Every slot from `from` on is 0. All are joined bit by bit and compared once, since in a sheet all have to be looked at.
 fn slots_are_zero(slots: &[u64], from: usize) -> bool
     ensures { λ r. ⌜ r ≡ allZero (drop from (now (slots .entry))) ⌝ }
 {
+    let mut joined: u64 = 0;
     let mut i = from;
     while i < slots.len() {
-        if slots[i] != 0 {
-            return false;
-        }
+        joined = joined | slots[i];
         i += 1;
     }
-    true
+    joined == 0
 }
 
-// Every count from the range number `from` on is 0.
+// Every count from the range number `from` on is 0, found in the same way.
 fn counts_are_zero(counts: &[u32], from: usize) -> bool
     ensures { λ r. ⌜ r ≡ allZero (drop from (now (counts .entry))) ⌝ }
 {
+    let mut joined: u32 = 0;
     let mut k = from;
     while k < counts.len() {
-        if counts[k] != 0 {
-            return false;
-        }
+        joined = joined | counts[k];
         k += 1;
     }
-    true
+    joined == 0
 }
 
 // Leaves of s slots one after the other, from the first slot on: their numbers of entries stand in the counts from `first` on.
