@@ -5,10 +5,12 @@ pub mod Sheet
 pub mod Room
 pub mod Ready
 pub mod Check
+pub mod Quotient
 pub mod Examples
 pub mod ListLaws
 pub mod BoolLaws
 pub mod LeafLaws
+pub mod QuotientLaws
 pub mod CountLaws
 pub mod LayoutLaws
 pub mod SheetLaws

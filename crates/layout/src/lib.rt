@@ -3,8 +3,8 @@ ghost use mathlib.Core.Path.{_≡_};
 ghost use mathlib.Core.List.{_++_};
 ghost use Prim.Native.Nat.{_+_, _-_, _*_, _^_, _≤_, _<_};
 ghost use lib.ListN.{length, getD, take, drop};
-ghost use Rattle.base.specs.Cases.{ifLt};
-ghost use Rattle.layout.specs.Leaf.{slotOf, spread, nonzero};
+ghost use Rattle.layout.specs.Leaf.{spread, nonzero};
+ghost use Rattle.layout.specs.Quotient.{divided, added, positionOf};
 ghost use Rattle.layout.specs.Layout.{layLeaves};
 ghost use Rattle.layout.specs.Sheet.{sheetTest};
 ghost use Rattle.layout.specs.Room.{Roomy};
@@ -13,16 +13,55 @@ ghost use Rattle.layout.specs.Check.{allZero, leafTest, leavesTest, rang
 use sizes::Size;
 use sizes::window_start;
 
-// The slot of entry k of n in a leaf of s slots, or s where there is no entry k.
-fn next_slot(s: usize, n: usize, k: usize) -> usize
-    requires fit { ⌜ n ≤ s ⌝ }
-    requires small { ⌜ s < 2 ^ 32 ⌝ }
-    ensures { λ r. ⌜ r ≡ ifLt k n (slotOf s n k) s ⌝ }
-{
-    if k < n {
-        return k * s / n;
+// A quotient, rounded down, and its remainder.
+struct Quotient {
+    whole: usize,
+    rest: usize,
+}
+
+impl Quotient {
+    // The sum with another quotient by the same n.
+    fn plus(self, other: Quotient, n: usize) -> Quotient
+        requires wholes { ⌜ self .whole + other .whole < 2 ^ 62 ⌝ }
+        requires rests { ⌜ self .rest + other .rest < 2 ^ 62 ⌝ }
+        ensures { λ r. ⌜ r ≡ added n self other ⌝ }
+    {
+        let whole = self.whole + other.whole;
+        let rest = self.rest + other.rest;
+        if rest < n {
+            return Quotient {
+                whole: whole,
+                rest: rest,
+            };
+        }
+        Quotient {
+            whole: whole + 1,
+            rest: rest - n,
+        }
     }
-    s
+}
+
+// x divided by n; by 0 it is 0, and everything remains.
+fn divide(x: usize, n: usize) -> Quotient
+    ensures { λ r. ⌜ r ≡ divided x n ⌝ }
+{
+    if n == 0 {
+        return Quotient { whole: 0, rest: x };
+    }
+    Quotient {
+        whole: x / n,
+        rest: x % n,
+    }
+}
+
+// The position of the first of n entries in a leaf of s slots, or s where there is none. Those of the others follow by adding s divided by n.
+fn first_position(s: usize, n: usize) -> Quotient
+    ensures { λ r. ⌜ r ≡ positionOf s n 0 ⌝ }
+{
+    if n == 0 {
+        return Quotient { whole: s, rest: 0 };
+    }
+    Quotient { whole: 0, rest: 0 }
 }
 
 // Writes n entries of the list, from `at` on, into s slots from `from` on: each slot once, from left to right, an entry or 0.
@@ -33,14 +72,15 @@ pub fn spread_leaf(slots: &mut [u64], from: usize, s: usize, list: &[u64], at: u
         ++ spread s (take n (drop at (now (list .entry))))
         ++ drop (from + s) (now (slots .entry)) ⌝ }
 {
+    let step = divide(s, n);
+    let mut position = first_position(s, n);
     let mut i: usize = 0;
     let mut k: usize = 0;
-    let mut next = next_slot(s, n, k);
     while i < s {
-        if i == next {
+        if i == position.whole {
             slots[from + i] = list[at + k];
             k += 1;
-            next = next_slot(s, n, k);
+            position = position.plus(step, n);
         } else {
             slots[from + i] = 0;
         }
@@ -108,17 +148,16 @@ fn leaf_is_spread(slots: &[u64], from: usize, s: usize, n: usize) -> bool
     requires { ⌜ LeafToCheck (now slots) from s n ⌝ }
     ensures { λ r. ⌜ r ≡ leafTest s n (take s (drop from (now (slots .entry)))) ⌝ }
 {
+    let step = divide(s, n);
+    let mut position = first_position(s, n);
     let mut i: usize = 0;
-    let mut k: usize = 0;
-    let mut next = next_slot(s, n, k);
     while i < s {
         let held = slots[from + i];
-        if i == next {
+        if i == position.whole {
             if held == 0 {
                 return false;
             }
-            k += 1;
-            next = next_slot(s, n, k);
+            position = position.plus(step, n);
         } else if held != 0 {
             return false;
         }
