@@ -1,15 +1,16 @@
-//! One table: what each call costs in the proved library and in the Rust
-//! implementation, beside a bare scan of the store's bytes.
+//! One table: what each call costs in the proved library and in Rust, beside a
+//! bare scan of the store's bytes.
 //!
-//! Every row is measured many times, the two sides in turn and on equal stores
-//! with equal arguments and tapes. A row shows the median of each side, the
-//! median of the ratios of the two times that were taken next to each other,
-//! and how far nine tenths of those ratios lie apart from the lowest tenth.
+//! Every row is measured many times, the sides in turn and on equal stores with
+//! equal arguments and tapes. A row shows the median of each side. The ratio is
+//! to the faster of the two Rust sides, taken from times next to each other:
+//! the median, and between which values the middle four fifths lie.
 
+mod plain;
 mod sides;
 
 use reference::random::SplitMix64;
-use sides::{Proved, Returned, Rust, Side, Store};
+use sides::{Plain, Proved, Reference, Returned, Side, Store};
 use std::hint::black_box;
 use std::process::ExitCode;
 use std::time::Instant;
@@ -165,15 +166,25 @@ fn median(values: &[f64]) -> f64 {
     quantile(values, 0.5)
 }
 
-/// One row from the times taken in turn. True if it is within the bound.
-fn row(kind: &str, n: &str, proved: &[f64], rust: &[f64], scan: f64) -> bool {
+/// The times of one row, of the three sides in turn.
+struct Taken {
+    proved: Vec<f64>,
+    reference: Vec<f64>,
+    plain: Vec<f64>,
+}
+
+/// Prints one row. True if it is within the bound.
+fn row(kind: &str, n: &str, taken: &Taken, scan: f64) -> bool {
+    let Taken { proved, reference, plain } = taken;
+    let rust = if median(plain) < median(reference) { plain } else { reference };
     let ratios: Vec<f64> = proved.iter().zip(rust).map(|(p, r)| p / r).collect();
     let ratio = median(&ratios);
     let within = ratio <= BOUND;
     println!(
-        "| {kind:8} | {n:>9} | {:>8.0} | {:>8.0} | {ratio:>5.2} | {:>5.2} to {:<4.2} | {scan:>6.0} | {:>5.1} |{}",
+        "| {kind:8} | {n:>9} | {:>8.0} | {:>9.0} | {:>8.0} | {ratio:>5.2} | {:>4.2} to {:>4.2} | {scan:>6.0} | {:>5.1} |{}",
         median(proved),
-        median(rust),
+        median(reference),
+        median(plain),
         quantile(&ratios, 0.1),
         quantile(&ratios, 0.9),
         median(proved) / scan,
@@ -182,55 +193,59 @@ fn row(kind: &str, n: &str, proved: &[f64], rust: &[f64], scan: f64) -> bool {
     within
 }
 
+/// The stores of one side.
+type Stores = Vec<Store>;
+
 /// The rows of one length.
 fn rows_at(n: usize, times: usize, random: &mut SplitMix64) -> bool {
-    let mut proved = vec![Store::empty(); STORES];
-    for store in &mut proved {
+    let mut stores: Stores = vec![Store::empty(); STORES];
+    for store in &mut stores {
         build::<Proved>(store, &Arguments::list(random, n));
     }
-    let mut rust = proved.clone();
-    let (mut by_proved, mut by_rust, mut scans) = (Vec::new(), Vec::new(), Vec::new());
+    let mut sides = [stores.clone(), stores.clone(), stores];
+    let measures: [fn(usize, &mut [Store], &[Arguments]) -> Times; 3] = [measure::<Proved>, measure::<Reference>, measure::<Plain>];
+    let mut taken = [Vec::new(), Vec::new(), Vec::new()];
+    let mut scans = Vec::new();
     for turn in 0..times {
         let arguments = Arguments::list(random, 2 * STORES * ROUNDS);
-        if turn % 2 == 0 {
-            by_proved.push(measure::<Proved>(n, &mut proved, &arguments));
-            by_rust.push(measure::<Rust>(n, &mut rust, &arguments));
-        } else {
-            by_rust.push(measure::<Rust>(n, &mut rust, &arguments));
-            by_proved.push(measure::<Proved>(n, &mut proved, &arguments));
+        for side in (0..3).map(|side| (side + turn) % 3) {
+            taken[side].push(measures[side](n, &mut sides[side], &arguments));
         }
-        assert!(proved == rust, "both sides leave the same stores");
-        scans.push(scan_time(&proved));
+        assert!(sides[0] == sides[1] && sides[0] == sides[2], "all sides leave the same stores");
+        scans.push(scan_time(&sides[0]));
     }
     let scan = median(&scans);
     KINDS.iter().fold(true, |within, (kind, time)| {
-        let proved: Vec<f64> = by_proved.iter().map(time).collect();
-        let rust: Vec<f64> = by_rust.iter().map(time).collect();
-        row(kind, &n.to_string(), &proved, &rust, scan) && within
+        let [proved, reference, plain] = [0, 1, 2].map(|side: usize| taken[side].iter().map(time).collect());
+        row(kind, &n.to_string(), &Taken { proved, reference, plain }, scan) && within
     })
 }
 
 /// The row of building a sheet from nothing: nanoseconds for one insert.
 fn row_of_building(times: usize, random: &mut SplitMix64) -> bool {
-    let (mut proved, mut rust, mut scans) = (Vec::new(), Vec::new(), Vec::new());
-    for _ in 0..times.div_ceil(4) {
+    let builds: [fn(&mut Store, &[Arguments]); 3] = [build::<Proved>, build::<Reference>, build::<Plain>];
+    let mut taken = [Vec::new(), Vec::new(), Vec::new()];
+    let mut scans = Vec::new();
+    for turn in 0..times.div_ceil(4) {
         let arguments = Arguments::list(random, BUILT);
-        let (mut a, mut b) = (Store::empty(), Store::empty());
-        proved.push(timed(BUILT, || build::<Proved>(&mut a, &arguments)));
-        rust.push(timed(BUILT, || build::<Rust>(&mut b, &arguments)));
-        assert!(a == b, "both sides leave the same stores");
-        scans.push(scan_time(&[a]));
+        let mut stores: Stores = vec![Store::empty(); 3];
+        for side in (0..3).map(|side| (side + turn) % 3) {
+            taken[side].push(timed(BUILT, || builds[side](&mut stores[side], &arguments)));
+        }
+        assert!(stores[0] == stores[1] && stores[0] == stores[2], "all sides leave the same stores");
+        scans.push(scan_time(&stores));
     }
-    row("build", "0 to 1000", &proved, &rust, median(&scans))
+    let [proved, reference, plain] = taken;
+    row("build", "0 to 1000", &Taken { proved, reference, plain }, median(&scans))
 }
 
 fn main() -> ExitCode {
     let times = std::env::args().nth(1).and_then(|a| a.parse().ok()).unwrap_or(101);
     let mut random = SplitMix64::new(1);
-    println!("ns per call, medians of {times} measurements of {} calls, same seeds and tapes on both sides", STORES * ROUNDS);
+    println!("ns per call, medians of {times} measurements of {} calls, same seeds and tapes on all sides", STORES * ROUNDS);
     println!();
-    println!("| call     |         N |   proved |     Rust | ratio | middle 4/5   |   scan | /scan |");
-    println!("|----------|-----------|----------|----------|-------|--------------|--------|-------|");
+    println!("| call     |         N |   proved | reference |    plain | ratio | middle 4/5   |   scan | /scan |");
+    println!("|----------|-----------|----------|-----------|----------|-------|--------------|--------|-------|");
     let mut within = true;
     for n in LENGTHS {
         within &= rows_at(n, times, &mut random);

@@ -1,5 +1,6 @@
-//! The two implementations behind one trait, and the store that each works on.
+//! The three implementations behind one trait, and the store that each works on.
 
+use crate::plain;
 use reference::calls::{self, Answer};
 use reference::layout::{COUNTS, SLOTS};
 
@@ -155,15 +156,15 @@ impl Side for Proved {
     }
 }
 
-/// The implementation in Rust, `tests/reference`.
-pub struct Rust;
+/// The second implementation, `tests/reference`.
+pub struct Reference;
 
 fn returned(answer: Answer) -> Returned {
     let [first, second] = answer.values();
     [answer.number() as u64, first as u64, second as u64]
 }
 
-impl Side for Rust {
+impl Side for Reference {
     #[inline(never)]
     fn check(store: &Store) -> Returned {
         returned(calls::check(&store.slots, &store.counts))
@@ -187,5 +188,35 @@ impl Side for Rust {
     #[inline(never)]
     fn delete(store: &mut Store, rank: usize, tape: &[u32]) -> Returned {
         returned(calls::delete(&mut store.slots, &mut store.counts, rank, tape))
+    }
+}
+
+/// The calls in plain Rust, [`plain`].
+pub struct Plain;
+
+impl Side for Plain {
+    #[inline(never)]
+    fn check(store: &Store) -> Returned {
+        plain::check(&store.slots, &store.counts)
+    }
+
+    #[inline(never)]
+    fn place(store: &Store, rank: usize) -> Returned {
+        plain::place(&store.slots, &store.counts, rank)
+    }
+
+    #[inline(never)]
+    fn read(store: &Store, first: usize, last: usize, output: &mut [u64]) -> Returned {
+        plain::read(&store.slots, &store.counts, first, last, output)
+    }
+
+    #[inline(never)]
+    fn insert(store: &mut Store, rank: usize, entry: u64, tape: &[u32]) -> Returned {
+        plain::insert(&mut store.slots, &mut store.counts, rank, entry, tape)
+    }
+
+    #[inline(never)]
+    fn delete(store: &mut Store, rank: usize, tape: &[u32]) -> Returned {
+        plain::delete(&mut store.slots, &mut store.counts, rank, tape)
     }
 }

@@ -77,6 +77,14 @@ module _ (s n : ℕ) where
 pub first-slot : {s n : ℕ} {position : Quotient} → Stands s n 0 position → position .whole ≡ ifLt 0 n (slotOf s n 0) s
 first-slot {s} {n} here = ap (λ (q : Quotient). q .whole) (here .is) ∙ position-slot s n 0 (omega arith)
 
+-- The slot of an entry, which is inside the leaf.
+pub stands-slot : {s n k : ℕ} {position : Quotient} → Stands s n k position → k < n → position .whole ≡ slotOf s n k
+stands-slot {s} {n} {k} here more =
+    ap (λ (q : Quotient). q .whole) (here .is) ∙ position-slot s n k (omega arith) ∙ ifLt-yes k n (slotOf s n k) s more
+
+pub stands-inside : {s n k : ℕ} {position : Quotient} → Stands s n k position → k < n → n ≤ s → position .whole < s
+stands-inside {s} {n} {k} here more fit = omega (arith, stands-slot here more, slotOf-positions s n fit .inside k more)
+
 module _ {s n k : ℕ} {position step : Quotient} (here : Stands s n k position) (by : step ≡ divided s n) (more : k < n) where
   pub next-room : n ≤ s → s < 2 ^ 32 → (position .whole + step .whole < 2 ^ 62) × (position .rest + step .rest < 2 ^ 62)
   next-room fit small =

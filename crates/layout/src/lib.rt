@@ -143,25 +143,42 @@ pub fn gather(slots: &[u64], from: usize, len: usize, list: &mut [u64]) -> usize
     n
 }
 
-// The s slots from `from` on hold n entries at the places of the leaf rule, and 0 in every other slot.
+// The number of entries in `len` slots from `from` on.
+fn entries_in(slots: &[u64], from: usize, len: usize) -> usize
+    requires room { ⌜ from + len ≤ length (now slots) ⌝ }
+    ensures { λ r. ⌜ r ≡ length (nonzero (take len (drop from (now (slots .entry))))) ⌝ }
+{
+    let mut n: usize = 0;
+    let mut i: usize = 0;
+    while i < len {
+        let content = slots[from + i];
+        i += 1;
+        if content != 0 {
+            n += 1;
+        }
+    }
+    n
+}
+
+// The s slots from `from` on hold n entries at the places of the leaf rule, and 0 in every other slot: there are n entries, and no place is
+// empty.
 fn leaf_is_spread(slots: &[u64], from: usize, s: usize, n: usize) -> bool
     requires { ⌜ LeafToCheck (now slots) from s n ⌝ }
     ensures { λ r. ⌜ r ≡ leafTest s n (take s (drop from (now (slots .entry)))) ⌝ }
 {
+    if entries_in(slots, from, s) != n {
+        return false;
+    }
     let step = divide(s, n);
     let mut position = first_position(s, n);
-    let mut i: usize = 0;
-    while i < s {
-        let held = slots[from + i];
-        if i == position.whole {
-            if held == 0 {
-                return false;
-            }
-            position = position.plus(step, n);
-        } else if held != 0 {
+    let mut k: usize = 0;
+    while k < n {
+        let slot = position.whole;
+        if slots[from + slot] == 0 {
             return false;
         }
-        i += 1;
+        position = position.plus(step, n);
+        k += 1;
     }
     true
 }
