@@ -5,8 +5,10 @@ pub mod Sheet
 pub mod Room
 pub mod Ready
 pub mod Check
+pub mod Quotient
 pub mod Examples
 pub mod LeafLaws
+pub mod QuotientLaws
 pub mod LayoutLaws
 pub mod SheetLaws
 pub mod LeafLoop

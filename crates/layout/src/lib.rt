@@ -3,8 +3,8 @@ ghost use mathlib.Core.Path.{_≡_};
 ghost use mathlib.Core.List.{_++_};
 ghost use Prim.Native.Nat.{_+_, _-_, _*_, _^_, _≤_, _<_};
 ghost use lib.ListN.{length, getD, take, drop};
-ghost use Rattle.base.specs.Cases.{ifLt};
-ghost use Rattle.layout.specs.Leaf.{slotOf, spread, nonzero};
+ghost use Rattle.layout.specs.Leaf.{spread, nonzero};
+ghost use Rattle.layout.specs.Quotient.{divided, added, positionOf};
 ghost use Rattle.layout.specs.Layout.{layLeaves};
 ghost use Rattle.layout.specs.Sheet.{sheetTest};
 ghost use Rattle.layout.specs.Room.{Roomy};
@@ -13,16 +13,55 @@ ghost use Rattle.layout.specs.Check.{allZero, leafTest, leavesTest, rang
 use sizes::Size;
 use sizes::window_start;
 
-// The slot of entry k of n in a leaf of s slots, or s where there is no entry k.
-fn next_slot(s: usize, n: usize, k: usize) -> usize
-    requires fit { ⌜ n ≤ s ⌝ }
-    requires small { ⌜ s < 2 ^ 32 ⌝ }
-    ensures { λ r. ⌜ r ≡ ifLt k n (slotOf s n k) s ⌝ }
-{
-    if k < n {
-        return k * s / n;
+// A quotient, rounded down, and its remainder.
+struct Quotient {
+    whole: usize,
+    rest: usize,
+}
+
+impl Quotient {
+    // The sum with another quotient by the same n.
+    fn plus(self, other: Quotient, n: usize) -> Quotient
+        requires wholes { ⌜ self .whole + other .whole < 2 ^ 62 ⌝ }
+        requires rests { ⌜ self .rest + other .rest < 2 ^ 62 ⌝ }
+        ensures { λ r. ⌜ r ≡ added n self other ⌝ }
+    {
+        let whole = self.whole + other.whole;
+        let rest = self.rest + other.rest;
+        if rest < n {
+            return Quotient {
+                whole: whole,
+                rest: rest,
+            };
+        }
+        Quotient {
+            whole: whole + 1,
+            rest: rest - n,
+        }
     }
-    s
+}
+
+// x divided by n; by 0 it is 0, and everything remains.
+fn divide(x: usize, n: usize) -> Quotient
+    ensures { λ r. ⌜ r ≡ divided x n ⌝ }
+{
+    if n == 0 {
+        return Quotient { whole: 0, rest: x };
+    }
+    Quotient {
+        whole: x / n,
+        rest: x % n,
+    }
+}
+
+// The position of the first of n entries in a leaf of s slots, or s where there is none. Those of the others follow by adding s divided by n.
+fn first_position(s: usize, n: usize) -> Quotient
+    ensures { λ r. ⌜ r ≡ positionOf s n 0 ⌝ }
+{
+    if n == 0 {
+        return Quotient { whole: s, rest: 0 };
+    }
+    Quotient { whole: 0, rest: 0 }
 }
 
 // Writes n entries of the list, from `at` on, into s slots from `from` on: each slot once, from left to right, an entry or 0.
@@ -33,14 +72,15 @@ fn spread_leaf(slots: &mut [u64], from: usize, s: usize, list: &[u64], at: usize
         ++ spread s (take n (drop at (now (list .entry))))
         ++ drop (from + s) (now (slots .entry)) ⌝ }
 {
+    let step = divide(s, n);
+    let mut position = first_position(s, n);
     let mut i: usize = 0;
     let mut k: usize = 0;
-    let mut next = next_slot(s, n, k);
     while i < s {
-        if i == next {
+        if i == position.whole {
             slots[from + i] = list[at + k];
             k += 1;
-            next = next_slot(s, n, k);
+            position = position.plus(step, n);
         } else {
             slots[from + i] = 0;
         }
@@ -103,56 +143,70 @@ pub fn gather(slots: &[u64], from: usize, len: usize, list: &mut [u64]) -> usize
     n
 }
 
-// The s slots from `from` on hold n entries at the places of the leaf rule, and 0 in every other slot.
+// The number of entries in `len` slots from `from` on.
+fn entries_in(slots: &[u64], from: usize, len: usize) -> usize
+    requires room { ⌜ from + len ≤ length (now slots) ⌝ }
+    ensures { λ r. ⌜ r ≡ length (nonzero (take len (drop from (now (slots .entry))))) ⌝ }
+{
+    let mut n: usize = 0;
+    let mut i: usize = 0;
+    while i < len {
+        let content = slots[from + i];
+        i += 1;
+        if content != 0 {
+            n += 1;
+        }
+    }
+    n
+}
+
+// The s slots from `from` on hold n entries at the places of the leaf rule, and 0 in every other slot: there are n entries, and no place is
+// empty.
 fn leaf_is_spread(slots: &[u64], from: usize, s: usize, n: usize) -> bool
     requires { ⌜ LeafToCheck (now slots) from s n ⌝ }
     ensures { λ r. ⌜ r ≡ leafTest s n (take s (drop from (now (slots .entry)))) ⌝ }
 {
-    let mut i: usize = 0;
+    if entries_in(slots, from, s) != n {
+        return false;
+    }
+    let step = divide(s, n);
+    let mut position = first_position(s, n);
     let mut k: usize = 0;
-    let mut next = next_slot(s, n, k);
-    while i < s {
-        let held = slots[from + i];
-        if i == next {
-            if held == 0 {
-                return false;
-            }
-            k += 1;
-            next = next_slot(s, n, k);
-        } else if held != 0 {
+    while k < n {
+        let slot = position.whole;
+        if slots[from + slot] == 0 {
             return false;
         }
-        i += 1;
-    }
-    true
-}
-
-// Every slot from `from` on is 0.
-fn slots_are_zero(slots: &[u64], from: usize) -> bool
-    ensures { λ r. ⌜ r ≡ allZero (drop from (now (slots .entry))) ⌝ }
-{
-    let mut i = from;
-    while i < slots.len() {
-        if slots[i] != 0 {
-            return false;
-        }
-        i += 1;
-    }
-    true
-}
-
-// Every count from the range number `from` on is 0.
-fn counts_are_zero(counts: &[u32], from: usize) -> bool
-    ensures { λ r. ⌜ r ≡ allZero (drop from (now (counts .entry))) ⌝ }
-{
-    let mut k = from;
-    while k < counts.len() {
-        if counts[k] != 0 {
-            return false;
-        }
+        position = position.plus(step, n);
         k += 1;
     }
     true
+}
+
+// Every slot from `from` on is 0. All are joined bit by bit and compared once, since in a sheet all have to be looked at.
+fn slots_are_zero(slots: &[u64], from: usize) -> bool
+    ensures { λ r. ⌜ r ≡ allZero (drop from (now (slots .entry))) ⌝ }
+{
+    let mut joined: u64 = 0;
+    let mut i = from;
+    while i < slots.len() {
+        joined = joined | slots[i];
+        i += 1;
+    }
+    joined == 0
+}
+
+// Every count from the range number `from` on is 0, found in the same way.
+fn counts_are_zero(counts: &[u32], from: usize) -> bool
+    ensures { λ r. ⌜ r ≡ allZero (drop from (now (counts .entry))) ⌝ }
+{
+    let mut joined: u32 = 0;
+    let mut k = from;
+    while k < counts.len() {
+        joined = joined | counts[k];
+        k += 1;
+    }
+    joined == 0
 }
 
 // Leaves of s slots one after the other, from the first slot on: their numbers of entries stand in the counts from `first` on.
