@@ -8,8 +8,8 @@ ghost use Rattle.layout.specs.Quotient.{divided, added, positionOf};
 ghost use Rattle.layout.specs.Layout.{layLeaves};
 ghost use Rattle.layout.specs.Sheet.{sheetTest};
 ghost use Rattle.layout.specs.Room.{Roomy};
-ghost use Rattle.layout.specs.Ready.{LeafReady, LeavesReady, GatherReady, Gathered, LeafToCheck, LeavesToCheck, RangeToCheck, TreeToCheck, CountsToCheck, SlotsToCheck};
-ghost use Rattle.layout.specs.Check.{allZero, leafTest, leavesTest, rangeTest, treeTest, countsTest, slotsTest};
+ghost use Rattle.layout.specs.Ready.{LeafReady, LeavesReady, GatherReady, Gathered, LeafToCheck, LeavesToCheck, RangeToCheck, BranchToCheck, TreeToCheck, CountsToCheck, SlotsToCheck};
+ghost use Rattle.layout.specs.Check.{allZero, leafTest, leavesTest, rangeTest, branchTest, treeTest, countsTest, slotsTest};
 use sizes::Size;
 use sizes::window_start;
 
@@ -227,13 +227,11 @@ fn leaves_are_spread(slots: &[u64], s: usize, counts: &[u32], first: usize, leav
     true
 }
 
-// The range k at depth d, which is no leaf: its balance entry is a candidate, and the counts of its halves add up to its own.
-fn range_is_balanced(m: usize, d: usize, k: usize, counts: &[u32]) -> bool
-    requires { ⌜ RangeToCheck (now counts) m d k ⌝ }
-    ensures { λ r. ⌜ r ≡ rangeTest (now (counts .entry)) m d k ⌝ }
+// The range k, which is no leaf and has c candidates: its balance entry is one of them, and the counts of its halves add up to its own.
+fn range_is_balanced(c: usize, k: usize, counts: &[u32]) -> bool
+    requires { ⌜ RangeToCheck (now counts) c k ⌝ }
+    ensures { λ r. ⌜ r ≡ rangeTest (now (counts .entry)) c k ⌝ }
 {
-    let size = Size { m: m };
-    let c = size.candidates(d);
     let n = count_at(counts, k);
     let b = count_at(counts, 2 * k);
     let start = window_start(n, c);
@@ -247,21 +245,35 @@ fn range_is_balanced(m: usize, d: usize, k: usize, counts: &[u32]) -> bool
     right == n - b
 }
 
-// The range k at depth d, `levels` above the leaves, and the ranges below it.
-fn tree_is_balanced(m: usize, levels: usize, d: usize, k: usize, counts: &[u32]) -> bool
-    requires { ⌜ TreeToCheck (now counts) m levels d k ⌝ }
-    ensures { λ r. ⌜ r ≡ treeTest (now (counts .entry)) m levels d k ⌝ }
+// The range k with c candidates, `levels` above the leaves, and the ranges below it: a half has half as many candidates, rounded up.
+fn branch_is_balanced(c: usize, levels: usize, k: usize, counts: &[u32]) -> bool
+    requires { ⌜ BranchToCheck (now counts) c levels k ⌝ }
+    ensures { λ r. ⌜ r ≡ branchTest (now (counts .entry)) c levels k ⌝ }
 {
     if levels == 0 {
         return true;
     }
-    if !range_is_balanced(m, d, k, counts) {
+    if !range_is_balanced(c, k, counts) {
         return false;
     }
-    if !tree_is_balanced(m, levels - 1, d + 1, 2 * k, counts) {
+    let below = c - c / 2;
+    if !branch_is_balanced(below, levels - 1, 2 * k, counts) {
         return false;
     }
-    tree_is_balanced(m, levels - 1, d + 1, 2 * k + 1, counts)
+    branch_is_balanced(below, levels - 1, 2 * k + 1, counts)
+}
+
+// The ranges of a sheet of size m, h above the leaves at its root.
+fn tree_is_balanced(m: usize, h: usize, counts: &[u32]) -> bool
+    requires { ⌜ TreeToCheck (now counts) m h ⌝ }
+    ensures { λ r. ⌜ r ≡ treeTest (now (counts .entry)) m h 0 1 ⌝ }
+{
+    if h == 0 {
+        return true;
+    }
+    let size = Size { m: m };
+    let c = size.candidates(0);
+    branch_is_balanced(c, h, 1, counts)
 }
 
 // The greatest size parameter that n entries can have.
@@ -293,7 +305,7 @@ fn counts_are_shaped(entries: usize, counts: &[u32]) -> bool
     }
     let size = Size { m: m };
     let h = size.height();
-    if !tree_is_balanced(m, h, 0, 1, counts) {
+    if !tree_is_balanced(m, h, counts) {
         return false;
     }
     counts_are_zero(counts, 2 * sizes::power(h))
