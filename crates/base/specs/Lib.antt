@@ -1,5 +1,6 @@
--- What every other crate's definitions and proofs use: choices by a comparison, and lists.
+-- What every other crate's definitions and proofs use: choices by a comparison, tests and lists.
 pub mod Cases
 pub mod Lists
 pub mod CaseLaws
+pub mod BoolLaws
 pub mod ListLaws

@@ -1,14 +1,16 @@
--- Laws of `Every` and of the equality test. Assumes nothing.
-use mathlib.Core.Path.{_≡_, refl, ap₂}
-use mathlib.Core.Bool.{Bool, true, false, _&&_}
+-- Laws of lists: their members, parts and sums, and the equality test. Assumes nothing.
+use mathlib.Core.Path.{_≡_, refl, sym, _∙_, ap₂}
+use mathlib.Core.Bool.{true}
 use mathlib.Core.List.{List, [], _∷_, _++_, map}
-use Prim.Native.Nat.{ℕ, zero, suc, _<_}
+use Prim.Native.Nat.{ℕ, zero, suc, _+_, _-_, _≤_, _<_}
 use native.Mathlib.Omega.{arith}
-use native.Mathlib.Nat.{le-of-suc-le-suc, not-suc-le-zero}
+use native.Mathlib.Nat.{le-of-suc-le-suc, not-suc-le-zero, sub-zero, suc-sub-suc, zero-sub}
 use borrow.Author.Tests.{eq-eqb, eqb-true}
 use lib.Dec.{eqb}
-use lib.ListN.{length, getD, set, take, drop, replicate}
-use Rattle.base.specs.Lists.{Every, equalLists}
+use lib.ListN.{length, getD, set, take, drop, replicate, length-append, length-take, length-drop, take-append-drop}
+use lib.Seq.{take-nil, take-take, take-append-le, drop-append-le, getD-take, getD-drop, length-take-le}
+use Rattle.base.specs.Lists.{Every, total, equalLists}
+use Rattle.base.specs.BoolLaws.{and-true-left, and-true-right}
 
 -- ---- every member
 
@@ -41,6 +43,11 @@ module _ {A : Type 0} (P : A → Type 0) where
   every-getD (x ∷ xs) zero d p h = p .0
   every-getD (x ∷ xs) (suc i) d p h = every-getD xs i d (p .1) (le-of-suc-le-suc h)
 
+  pub every-of : (xs : List A) (d : A) → ((i : ℕ) → i < length xs → P (getD xs i d)) → Every P xs
+  unfolding Every
+  every-of [] d h = tt
+  every-of (x ∷ xs) d h = (h 0 (omega arith), every-of xs d (λ i l. h (suc i) (omega arith)))
+
   pub every-set : (xs : List A) (i : ℕ) (x : A) → Every P xs → P x → Every P (set xs i x)
   unfolding Every
   every-set [] i x p h = tt
@@ -52,15 +59,63 @@ unfolding Every
 every-map P Q t h [] p = tt
 every-map P Q t h (x ∷ xs) p = (h x (p .0), every-map P Q t h xs (p .1))
 
+-- ---- parts of a list
+
+module _ {A : Type 0} where
+  pub drop-take : (m n : ℕ) (xs : List A) → drop m (take n xs) ≡ take (n - m) (drop m xs)
+  drop-take zero n xs = rw (sub-zero n)
+  drop-take (suc m) zero xs = rw (zero-sub (suc m))
+  drop-take (suc m) (suc n) [] = sym (take-nil (suc n - suc m))
+  drop-take (suc m) (suc n) (x ∷ xs) = rw (suc-sub-suc n m) (drop-take m n xs)
+
+  -- The part of n members from `from` on.
+  module _ (xs : List A) (from n : ℕ) where
+    pub length-part : from + n ≤ length xs → length (take n (drop from xs)) ≡ n
+    length-part h = simp (length-take, length-drop) (omega arith)
+
+    pub part-at : (i : ℕ) (d : A) → i < n → getD (take n (drop from xs)) i d ≡ getD xs (from + i) d
+    part-at i d h = rw (getD-take, getD-drop)
+
+  -- A list put together behind its first i members: its length, and parted before that.
+  module _ (i : ℕ) (xs ys : List A) (inside : i ≤ length xs) where
+    pub length-joined : length (take i xs ++ ys) ≡ i + length ys
+    length-joined = length-append (take i xs) ys ∙ rw (length-take-le i xs inside)
+
+    module _ (b : ℕ) (before : b ≤ i) where
+      pub joined-take : take b (take i xs ++ ys) ≡ take b xs
+      joined-take = take-append-le b (take i xs) ys (rw (length-take-le i xs inside) before) ∙ take-take b i xs before
+
+      pub joined-drop : drop b (take i xs ++ ys) ≡ take (i - b) (drop b xs) ++ ys
+      joined-drop = drop-append-le b (take i xs) ys (rw (length-take-le i xs inside) before) ∙ rw (drop-take b i xs)
+
+-- ---- lists of one value
+
+module _ {A : Type 0} (x : A) where
+  pub replicate-at : (n i : ℕ) → getD (replicate n x) i x ≡ x
+  replicate-at zero i = refl
+  replicate-at (suc n) zero = refl
+  replicate-at (suc n) (suc i) = replicate-at n i
+
+  pub drop-replicate : (k n : ℕ) → drop k (replicate n x) ≡ replicate (n - k) x
+  drop-replicate zero n = rw (sub-zero n)
+  drop-replicate (suc k) zero = rw (zero-sub (suc k))
+  drop-replicate (suc k) (suc n) = rw (suc-sub-suc n k) (drop-replicate k n)
+
+-- ---- sums
+
+pub total-append : (ms ns : List ℕ) → total (ms ++ ns) ≡ total ms + total ns
+unfolding total
+total-append [] ns = omega arith
+total-append (m ∷ ms) ns = omega (arith, total-append ms ns)
+
+pub total-last : (n : ℕ) (ns : List ℕ) → total (ns ++ (n ∷ [])) ≡ total ns + n
+unfolding total
+total-last n ns = total-append ns (n ∷ []) ∙ omega arith
+
+pub total-front : (i : ℕ) (ns : List ℕ) → total (take i ns) ≤ total ns
+total-front i ns = omega (arith, rw (take-append-drop i ns) at (total-append (take i ns) (drop i ns)))
+
 -- ---- the equality test
-
-pub and-true-left : (a b : Bool) → (a && b) ≡ true → a ≡ true
-and-true-left true b e = refl
-and-true-left false b e = e
-
-pub and-true-right : (a b : Bool) → (a && b) ≡ true → b ≡ true
-and-true-right true b e = e
-and-true-right false b e = let z : _≡_ {A = ℕ} 0 1 = cc in absurd (omega arith)
 
 pub equal-itself : (xs : List ℕ) → equalLists xs xs ≡ true
 unfolding equalLists

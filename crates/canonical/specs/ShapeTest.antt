@@ -5,7 +5,7 @@ use Prim.Native.Nat.{ℕ}
 use native.Mathlib.Omega.{arith}
 use borrow.Author.Tests.{eq-eqb, eqb-true}
 use lib.Dec.{eqb}
-use Rattle.base.specs.ListLaws.{and-true-left, and-true-right}
+use Rattle.base.specs.BoolLaws.{and-true-left, and-true-right}
 use Rattle.shares.specs.Apart.{EqualityTest}
 use Rattle.rules.specs.Tree.{Tree, leaf, node, Shape}
 use Rattle.canonical.specs.ShapeShare.{equalTrees, equalShapes}

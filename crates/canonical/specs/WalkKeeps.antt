@@ -1,5 +1,5 @@
 -- A change of a rebuilt range is a rebuilt range: the walk keeps the distribution of the trees. Assumes nothing.
-use mathlib.Core.Path.{_≡_, refl, sym, _∙_}
+use mathlib.Core.Path.{refl}
 use mathlib.Core.Logic.{⊎-elim}
 use Prim.Native.Nat.{ℕ, zero, suc, _+_, _-_, _≤_, _<_}
 use native.Mathlib.Omega.{arith}
@@ -16,7 +16,7 @@ use Rattle.rules.specs.Tree.{Tree, leaf, node}
 use Rattle.rules.specs.Compare.{countAfter, compare}
 use Rattle.rules.specs.Moves.{rankNow, GoesOut}
 use Rattle.rules.specs.MoveLaws.{moves, visit-keeps}
-use Rattle.rules.specs.ChangeLaws.{count-rank, right-reach, right-count, left-reach, left-count, now-is}
+use Rattle.rules.specs.ChangeLaws.{right-reach, right-after, right-now, left-reach, left-count, left-now}
 use Rattle.rules.specs.Rules.{InReach, rebuild, rebuildHalves, rankOf, atRank, walk}
 use Rattle.canonical.specs.VisitLaws.{join-cong, join-left, join-right, live-rebuild, join-visit}
 
@@ -43,15 +43,15 @@ module _ (M levels d : ℕ)
   below-keeps change n b reach few stays old new =
       ⊎-elim
       (λ (h : b < rankOf change).
-      let now : rankNow change b ≡ b = now-is change b ∙ ifLt-yes b (rankOf change) _ _ h in
-      let count : countAfter (atRank change (rankOf change - b)) (n - b) ≡ countAfter change n - b = count-rank change (rankOf change - b) (n - b) ∙ sym (right-count change n b h reach) in
+      let now = right-now change b h in
+      let count = right-after change n b h reach in
       rw now
       (≈-trans (bind-cong-right (half b) (λ l. bind-cong-right (half (n - b)) (λ r. ≈-path (ifLt-yes b (rankOf change) _ _ h))))
       (≈-trans (join-right b (half b) (half (n - b)) (walk M levels (suc d) (atRank change (rankOf change - b)) (n - b)))
       (join-cong b (≈-refl (half b))
       (rw count at (keeps (atRank change (rankOf change - b)) (n - b) (right-reach change n b h reach) (old .1) (rw count (rw now at (new .1)))))))))
       (λ (h : rankOf change ≤ b).
-      let now : rankNow change b ≡ countAfter change b = now-is change b ∙ ifLt-no b (rankOf change) _ _ h in
+      let now = left-now change b h in
       let here = left-reach change b h stays in
       rw (now, left-count change n b few here)
       (≈-trans (bind-cong-right (half b) (λ l. bind-cong-right (half (n - b)) (λ r. ≈-path (ifLt-no b (rankOf change) _ _ h))))

@@ -115,50 +115,50 @@ frame-hex line l h = ifLt-no (length line) 2 _ _ l ∙ rw h
 -- ---- the words of a tape line
 
 -- A tape of w words has 2 + 8 w digits; no other frame has words.
-Fits : List ℕ → Frame → Type 0
-Fits line x = (k : ℕ) → k < wordsOf x → 10 + 8 * k ≤ length line
+WordsWithin : List ℕ → Frame → Type 0
+WordsWithin line x = (k : ℕ) → k < wordsOf x → 10 + 8 * k ≤ length line
 
-fits-none : (line : List ℕ) (x : Frame) → wordsOf x ≡ 0 → Fits line x
-unfolding Fits
-fits-none line x e k l = omega arith
+within-none : (line : List ℕ) (x : Frame) → wordsOf x ≡ 0 → WordsWithin line x
+unfolding WordsWithin
+within-none line x e k l = omega arith
 
-fits-length : (line : List ℕ) (n : ℕ) (x : Frame) → wordsOf x ≡ 0 → Fits line (ofLength line n x)
+within-length : (line : List ℕ) (n : ℕ) (x : Frame) → wordsOf x ≡ 0 → WordsWithin line (ofLength line n x)
 unfolding ofLength wordsOf
-fits-length line n x e = by-eq (Fits line) (length line) n x NoFrame (λ _. fits-none line x e) (λ _. fits-none line NoFrame refl)
+within-length line n x e = by-eq (WordsWithin line) (length line) n x NoFrame (λ _. within-none line x e) (λ _. within-none line NoFrame refl)
 
-fits-tape : (line : List ℕ) → Fits line (tapeOf line)
-unfolding tapeOf wordsOf Fits
-fits-tape line =
-    by-eq (Fits line) (length line % 8) 2 _ _
+within-tape : (line : List ℕ) → WordsWithin line (tapeOf line)
+unfolding tapeOf wordsOf WordsWithin
+within-tape line =
+    by-eq (WordsWithin line) (length line % 8) 2 _ _
     (λ (e : length line % 8 ≡ 2).
-    by-lt (Fits line) (length line / 8) 1 _ _ (λ _. fits-none line NoFrame refl)
-    (λ _. by-lt (Fits line) 16 (length line / 8) _ _ (λ _. fits-none line NoFrame refl)
+    by-lt (WordsWithin line) (length line / 8) 1 _ _ (λ _. within-none line NoFrame refl)
+    (λ _. by-lt (WordsWithin line) 16 (length line / 8) _ _ (λ _. within-none line NoFrame refl)
     (λ _ k (l : k < length line / 8). omega (arith, e, l))))
-    (λ _. fits-none line NoFrame refl)
+    (λ _. within-none line NoFrame refl)
 
-fits-form : (line : List ℕ) (first : ℕ) → Fits line (formOf first line)
+within-form : (line : List ℕ) (first : ℕ) → WordsWithin line (formOf first line)
 unfolding formOf insertOf deleteOf readOf placeOf wordsOf
-fits-form line first =
-    by-eq (Fits line) first 1 _ _ (λ _. fits-length line 22 _ refl)
-    (λ _. by-eq (Fits line) first 2 _ _ (λ _. fits-length line 6 _ refl)
-    (λ _. by-eq (Fits line) first 3 _ _ (λ _. fits-length line 10 _ refl)
-    (λ _. by-eq (Fits line) first 4 _ _ (λ _. fits-tape line)
-    (λ _. by-eq (Fits line) first 5 _ _ (λ _. fits-length line 2 _ refl)
-    (λ _. by-eq (Fits line) first 6 _ _ (λ _. fits-length line 2 _ refl)
-    (λ _. by-eq (Fits line) first 7 _ _ (λ _. fits-length line 6 _ refl) (λ _. fits-none line NoFrame refl)))))))
+within-form line first =
+    by-eq (WordsWithin line) first 1 _ _ (λ _. within-length line 22 _ refl)
+    (λ _. by-eq (WordsWithin line) first 2 _ _ (λ _. within-length line 6 _ refl)
+    (λ _. by-eq (WordsWithin line) first 3 _ _ (λ _. within-length line 10 _ refl)
+    (λ _. by-eq (WordsWithin line) first 4 _ _ (λ _. within-tape line)
+    (λ _. by-eq (WordsWithin line) first 5 _ _ (λ _. within-length line 2 _ refl)
+    (λ _. by-eq (WordsWithin line) first 6 _ _ (λ _. within-length line 2 _ refl)
+    (λ _. by-eq (WordsWithin line) first 7 _ _ (λ _. within-length line 6 _ refl) (λ _. within-none line NoFrame refl)))))))
 
-fits-frame : (line : List ℕ) → Fits line (frameOf line)
+within-frame : (line : List ℕ) → WordsWithin line (frameOf line)
 unfolding frameOf wordsOf
-fits-frame line =
-    by-lt (Fits line) (length line) 2 _ _ (λ _. fits-none line NoFrame refl) (λ _. hex (isHexLine line))
+within-frame line =
+    by-lt (WordsWithin line) (length line) 2 _ _ (λ _. within-none line NoFrame refl) (λ _. hex (isHexLine line))
   where
-    hex : (h : Bool) → Fits line (elim h [ true ↦ formOf (field line 0 2) line | false ↦ NoFrame ])
-    hex true = fits-form line (field line 0 2)
-    hex false = fits-none line NoFrame refl
+    hex : (h : Bool) → WordsWithin line (elim h [ true ↦ formOf (field line 0 2) line | false ↦ NoFrame ])
+    hex true = within-form line (field line 0 2)
+    hex false = within-none line NoFrame refl
 
 pub word-inside : (line : List ℕ) (k : ℕ) → k < wordsOf (frameOf line) → 10 + 8 * k ≤ length line
-unfolding Fits
-word-inside line k l = fits-frame line k l
+unfolding WordsWithin
+word-inside line k l = within-frame line k l
 
 pub word-lt : (line : List ℕ) (i : ℕ) → field line i 8 < 2 ^ 32
 word-lt line i = field-lt line i 8

@@ -7,7 +7,8 @@ use native.Mathlib.Omega.{arith}
 use borrow.Author.Tests.{eq-eqb}
 use lib.ListN.{length}
 use Rattle.base.specs.Lists.{Every, equalLists}
-use Rattle.base.specs.ListLaws.{and-true-left, and-true-right, equal-itself, equal-sound}
+use Rattle.base.specs.BoolLaws.{and-true-left, and-true-right}
+use Rattle.base.specs.ListLaws.{equal-itself, equal-sound}
 use Rattle.shares.specs.Program.{_>>=_, Live, Ends}
 use Rattle.shares.specs.ProgramLaws.{bind-bind, bind-done, live-bind, live-done, ends-bind, ends-done}
 use Rattle.shares.specs.Rational.{≐-trans}

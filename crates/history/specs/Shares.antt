@@ -1,11 +1,12 @@
 -- The table of shares of a history is not empty: its shares sum to 1, every sheet of its list has the share 1 / N times 1 / c for each
 -- range above the leaves, and every store with a share is a sheet of its list. Assumes nothing.
-use mathlib.Core.Path.{_≡_, refl, sym, _∙_, ap}
-use mathlib.Core.Bool.{Bool, true, false}
+use mathlib.Core.Path.{_≡_, _∙_, ap}
+use mathlib.Core.Bool.{true}
 use mathlib.Core.List.{List, [], _∷_}
 use Prim.Native.Nat.{ℕ}
 use native.Mathlib.Omega.{arith}
 use lib.ListN.{length}
+use Rattle.base.specs.BoolLaws.{tests-agree}
 use Rattle.shares.specs.Program.{done}
 use Rattle.shares.specs.Fraction.{_≐_, whole, unit}
 use Rattle.shares.specs.Rational.{inv, crosswise, ≐-trans}
@@ -29,12 +30,6 @@ use Rattle.history.specs.History.{history, RightLengths, listAtEnd, refu
 use Rattle.history.specs.CallKeeps.{sheetsOf, IsList, sheet-refusal}
 use Rattle.history.specs.Independence.{SheetOf, stores-test, end-list, history-sheets, sheets-end, sheets-live}
 
--- tests of equality agree on values that are equal together
-tests-agree : (a b : Bool) → (a ≡ true → b ≡ true) → (b ≡ true → a ≡ true) → a ≡ b
-tests-agree true b f g = sym (f refl)
-tests-agree false true f g = g refl
-tests-agree false false f g = refl
-
 -- no courses, no shares
 no-sum : (cs : List (Course Store)) → cs ≡ [] → sumShares (λ _. true) cs ≐ whole 1 → ⊥
 unfolding sumShares
@@ -45,6 +40,7 @@ module _ (cap : Capacity) (roomy : Roomy cap) where
   contents-of : (list : List ℕ) (s : Shape) → IsList cap list → IsShape (length list) s → IsContents cap list s
   contents-of list s w shape = record { room = w .room; entries = w .entries; shape = shape }
 
+  -- The tests of equality agree on stores laid out and their shapes.
   same-test : (list : List ℕ) (s t : Shape) → IsList cap list → IsShape (length list) s → IsShape (length list) t
       → equalStores (layOut cap list s) (layOut cap list t) ≡ equalShapes s t
   same-test list s t w hs ht =

@@ -2,7 +2,7 @@
 -- assume nothing.
 use mathlib.Core.Bool.{Bool, true, _&&_}
 use mathlib.Core.List.{List, [], _∷_}
-use Prim.Native.Nat.{ℕ, zero, suc, _+_, _-_, _*_, _^_}
+use Prim.Native.Nat.{ℕ, zero, suc, _+_, _-_, _*_, _/_, _^_}
 use lib.Dec.{eqb, leb, ltb}
 use lib.ListN.{length, getD, take, drop}
 use Rattle.base.specs.Lists.{equalLists}
@@ -24,23 +24,28 @@ unfoldable pub leavesTest : ℕ → List ℕ → List ℕ → Bool
 leavesTest s [] all = true
 leavesTest s (n ∷ ns) all = leafTest s n (take s all) && leavesTest s ns (drop s all)
 
--- In a sheet of size M, the range k at depth d, which is no leaf: its balance entry is a candidate, and the counts of its halves add up
--- to its own.
-unfoldable pub rangeTest : List ℕ → ℕ → ℕ → ℕ → Bool
-rangeTest counts M d k =
+-- The range k, which is no leaf and has c candidates: its balance entry is one of them, and the counts of its halves add up to its own.
+unfoldable pub rangeTest : List ℕ → ℕ → ℕ → Bool
+rangeTest counts c k =
     let n = getD counts k 0 in
     let b = getD counts (2 * k) 0 in
-    leb (windowStart n (candidates M d)) b
-    && ltb b (windowStart n (candidates M d) + candidates M d)
-    && eqb (getD counts (2 * k + 1) 0) (n - b)
+    leb (windowStart n c) b && ltb b (windowStart n c + c) && eqb (getD counts (2 * k + 1) 0) (n - b)
 
--- The range k at depth d, `levels` above the leaves, and the ranges below it.
+-- In a sheet of size M, the range k at depth d, `levels` above the leaves, and the ranges below it.
 unfoldable pub treeTest : List ℕ → ℕ → ℕ → ℕ → ℕ → Bool
 treeTest counts M zero d k = true
 treeTest counts M (suc levels) d k =
-    rangeTest counts M d k
+    rangeTest counts (candidates M d) k
     && treeTest counts M levels (suc d) (2 * k)
     && treeTest counts M levels (suc d) (2 * k + 1)
+
+-- The same by the number of candidates alone: a half of a range has half as many, rounded up.
+unfoldable pub branchTest : List ℕ → ℕ → ℕ → ℕ → Bool
+branchTest counts c zero k = true
+branchTest counts c (suc levels) k =
+    rangeTest counts c k
+    && branchTest counts (c - c / 2) levels (2 * k)
+    && branchTest counts (c - c / 2) levels (2 * k + 1)
 
 -- The counts are those of a shape of at most `entries` entries, and 0 at every number that is not in use.
 unfoldable pub countsTest : ℕ → List ℕ → Bool

@@ -9,20 +9,22 @@ use lib.Seq.{length-take-le, take-at, drop-at, take-add}
 use native.Mathlib.Nat.{one-mul}
 use native.Mathlib.Omega.{arith}
 use borrow.Author.Tests.{le-leb, leb-true}
-use Rattle.base.specs.Lists.{Every}
+use Rattle.base.specs.Lists.{Every, total}
+use Rattle.base.specs.BoolLaws.{and-both, tests-agree}
 use Rattle.base.specs.ListLaws.{every-take, every-drop}
 use Rattle.sizes.specs.Sizes.{height, leafSlots, slots}
 use Rattle.sizes.specs.Fit.{fit}
 use Rattle.rules.specs.Tree.{Tree, Shape, IsShape}
-use Rattle.rank_tree.specs.Counts.{readTree, shapeCounts}
+use Rattle.rank_tree.specs.Counts.{readTree, shapeCounts, Holds}
+use Rattle.rank_tree.specs.RangeLaws.{balanced-perfect}
+use Rattle.rank_tree.specs.CountLaws.{read-perfect}
+use Rattle.rank_tree.specs.ShapeCountLaws.{length-shapeCounts, shapeCounts-holds, shapeCounts-only, shapeCounts-size, shapeCounts-total, shapeCounts-unused}
 use Rattle.layout.specs.Leaf.{spread, nonzero}
 use Rattle.layout.specs.Layout.{Capacity, Store, leafCounts, layLeaves, padTo, countOrder, laySlots, layCounts, layOut}
 use Rattle.layout.specs.Sheet.{IsContents, IsSheet, sheetTest}
-use Rattle.layout.specs.Room.{Roomy, total}
+use Rattle.layout.specs.Room.{Roomy}
 use Rattle.layout.specs.Check.{allZero, leafTest, leavesTest, treeTest, countsTest, slotsTest, storeTest}
-use Rattle.layout.specs.BoolLaws.{and-both, same-test}
 use Rattle.layout.specs.LeafLaws.{nonzero-positive, length-spread, nonzero-append}
-use Rattle.layout.specs.CountLaws.{balanced-levels, read-levels, Holds, length-shapeCounts, shapeCounts-holds, shapeCounts-only, shapeCounts-size, shapeCounts-total, shapeCounts-unused}
 use Rattle.layout.specs.LayoutLaws.{length-leafCounts, holds-leaves, leafCounts-total, leafCounts-fit, length-layLeaves}
 use Rattle.layout.specs.SheetLaws.{sheet-test, test-sheet}
 use Rattle.layout.specs.ZeroLaws.{zero-behind, zero-behind-test, zero-sound, zero-test}
@@ -105,7 +107,7 @@ pub counts-test : (entries room N : ℕ) (s : Shape) → N ≤ entries → 2 * 2
     → countsTest entries (shapeCounts room N s) ≡ true
 unfolding countsTest
 counts-test entries room N s few fits w =
-    let levels = balanced-levels (s .size) (height (s .size)) 0 N (s .tree) (w .balanced) in
+    let levels = balanced-perfect (s .size) (height (s .size)) 0 N (s .tree) (w .balanced) in
     rw (
       shapeCounts-size (height (s .size)) room N s levels fits,
       shapeCounts-total (height (s .size)) room N s levels fits,
@@ -134,7 +136,7 @@ module _ (entries : ℕ) (counts : List ℕ) (w : HasShape entries counts) where
     pub held-leaves : take (2 ^ height M) (drop (2 ^ height M) counts) ≡ leafCounts N tree
     held-leaves =
         rw (one-mul (2 ^ height M)) at
-        (holds-leaves (height M) counts 1 N tree (read-levels (height M) counts 1) (omega arith) (w .holds))
+        (holds-leaves (height M) counts 1 N tree (read-perfect (height M) counts 1) (omega arith) (w .holds))
 
     -- No leaf has more entries than slots.
     pub held-fit : Every (λ n. n ≤ leafSlots M) (take (2 ^ height M) (drop (2 ^ height M) counts))
@@ -159,7 +161,7 @@ layOut-test cap roomy list s w =
     let ns = leafCounts N (s .tree) in
     let leaves = layLeaves (leafSlots (s .size)) ns list in
     let room : 2 * 2 ^ h ≤ cap .counts = roomy .counts-fit N (s .size) (w .room) (w .shape .allowed) in
-    let levels = balanced-levels (s .size) h 0 N (s .tree) (w .shape .balanced) in
+    let levels = balanced-perfect (s .size) h 0 N (s .tree) (w .shape .balanced) in
     let fits = fit N (s .size) (w .shape .allowed) in
     let numbers : take (2 ^ h) (drop (2 ^ h) (shapeCounts (cap .counts) N s)) ≡ ns
     = rw (one-mul (2 ^ h)) at
@@ -197,7 +199,7 @@ module _ (entries : ℕ) (all counts : List ℕ) where
         let s = shapeHeld counts in
         let ns = leafCounts N (s .tree) in
         let room : 2 * 2 ^ height M ≤ length counts = roomy .counts-fit N M (w .few) (w .shape .allowed) in
-        let levels = read-levels (height M) counts 1 in
+        let levels = read-perfect (height M) counts 1 in
         let size : leafSlots M * length ns ≡ slots M = rw (length-leafCounts (height M) N (s .tree) levels) in
         let slot = and-both (leavesTest (leafSlots M) ns all) _ (rw (held-leaves entries counts w room) at (both .1)) in
         let leaves = rw size at (leaves-sound (leafSlots M) ns all (slot .0)) in
@@ -219,6 +221,6 @@ module _ (entries : ℕ) (all counts : List ℕ) where
 
     pub store-test : storeTest entries store ≡ sheetTest capacity store
     store-test =
-        same-test (storeTest entries store) (sheetTest capacity store)
+        tests-agree (storeTest entries store) (sheetTest capacity store)
         (λ h. sheet-test capacity roomy store (store-sound h))
         (λ h. let w = test-sheet capacity store h in rw (w .laid) (layOut-test capacity roomy (w .list) (w .shape) (w .valid)))

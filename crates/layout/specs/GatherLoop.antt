@@ -6,9 +6,9 @@ use lib.ListN.{length, getD, set, take, drop, length-append, take-append-drop}
 use lib.Seq.{append-snoc, take-suc, take-all, drop-cons, set-at}
 use native.Mathlib.Numerals.{add-one}
 use native.Mathlib.Omega.{arith}
+use Rattle.base.specs.ListLaws.{length-part, part-at}
 use Rattle.layout.specs.Leaf.{nonzero}
 use Rattle.layout.specs.Ready.{GatherReady, Gathered}
-use Rattle.layout.specs.ListLaws.{length-part, part-at}
 use Rattle.layout.specs.LeafLaws.{nonzero-append, nonzero-zero, nonzero-entry}
 
 nonzero-nil : nonzero [] ≡ []
@@ -22,6 +22,47 @@ nonzero-front i xs =
     = ap length (nonzero-append (take i xs) (drop i xs)) ∙ length-append (nonzero (take i xs)) (nonzero (drop i xs)) in
     omega (arith, rw (take-append-drop i xs) at split)
 
+-- One slot more.
+next-slot : (slots : List ℕ) (from len : ℕ) → from + len ≤ length slots → (i : ℕ) → i < len
+    → nonzero (take (i + 1) (take len (drop from slots))) ≡ nonzero (take i (take len (drop from slots))) ++ nonzero (getD slots (from + i) 0 ∷ [])
+next-slot slots from len room i more =
+    let part = take len (drop from slots) in
+    rw (
+      add-one i,
+      take-suc part i 0 (omega (arith, length-part slots from len room)),
+      part-at slots from len i 0 more,
+      nonzero-append (take i part),
+    )
+
+-- ---- their number
+
+module _ (slots : List ℕ) (from len : ℕ) (room : from + len ≤ length slots) where
+  abbrev counted : List ℕ
+  counted = take len (drop from slots)
+
+  pub number-none : 0 ≡ length (nonzero (take 0 counted))
+  number-none = rw nonzero-nil
+
+  module _ (i : ℕ) (more : i < len) (n : ℕ) (w : n ≡ length (nonzero (take i counted))) where
+    pub number-zero : getD slots (from + i) 0 ≡ 0 → n ≡ length (nonzero (take (i + 1) counted))
+    number-zero e =
+        rw (next-slot slots from len room i more, nonzero-zero (getD slots (from + i) 0) [] e, nonzero-nil, append-nil (nonzero (take i counted))) w
+
+    pub number-entry : (getD slots (from + i) 0 ≡ 0 → ⊥) → n + 1 ≡ length (nonzero (take (i + 1) counted))
+    number-entry ne =
+        rw (
+          next-slot slots from len room i more,
+          nonzero-entry (getD slots (from + i) 0) [] (omega arith),
+          nonzero-nil,
+          length-append (nonzero (take i counted)) (getD slots (from + i) 0 ∷ []),
+        )
+        (omega (arith, w))
+
+  pub number-all : (i : ℕ) → len ≤ i → {n : ℕ} → n ≡ length (nonzero (take i counted)) → n ≡ length (nonzero counted)
+  number-all i h w = rw (take-all i counted (omega (arith, length-part slots from len room))) at w
+
+-- ---- the entries themselves
+
 module _ {slots : List ℕ} {from len : ℕ} {old : List ℕ} (ready : GatherReady slots from len old) where
   abbrev part : List ℕ
   part = take len (drop from slots)
@@ -30,23 +71,17 @@ module _ {slots : List ℕ} {from len : ℕ} {old : List ℕ} (ready : GatherRea
   gathered-none = record { number = rw nonzero-nil; front = rw nonzero-nil }
 
   module _ (i : ℕ) (more : i < len) where
-    next-slot : nonzero (take (i + 1) part) ≡ nonzero (take i part) ++ nonzero (getD slots (from + i) 0 ∷ [])
-    next-slot =
-        rw (
-          add-one i,
-          take-suc part i 0 (omega (arith, length-part slots from len (ready .slots-room))),
-          part-at slots from len i more,
-          nonzero-append (take i part),
-        )
+    one-more : nonzero (take (i + 1) part) ≡ nonzero (take i part) ++ nonzero (getD slots (from + i) 0 ∷ [])
+    one-more = next-slot slots from len (ready .slots-room) i more
 
     pub gathered-zero : {list : List ℕ} {n : ℕ} → Gathered (nonzero (take i part)) old n list → getD slots (from + i) 0 ≡ 0
         → Gathered (nonzero (take (i + 1) part)) old n list
     gathered-zero w e =
-        rw (next-slot, nonzero-zero (getD slots (from + i) 0) [] e, nonzero-nil, append-nil (nonzero (take i part))) w
+        rw (one-more, nonzero-zero (getD slots (from + i) 0) [] e, nonzero-nil, append-nil (nonzero (take i part))) w
 
     module _ {list : List ℕ} {n : ℕ} (w : Gathered (nonzero (take i part)) old n list) (ne : getD slots (from + i) 0 ≡ 0 → ⊥) where
       entry : nonzero (take (i + 1) part) ≡ nonzero (take i part) ++ (getD slots (from + i) 0 ∷ [])
-      entry = next-slot ∙ rw (nonzero-entry (getD slots (from + i) 0) [] (omega arith), nonzero-nil)
+      entry = one-more ∙ rw (nonzero-entry (getD slots (from + i) 0) [] (omega arith), nonzero-nil)
 
       pub gather-room : n < length old
       gather-room =

@@ -6,32 +6,31 @@ use lib.ListN.{length, take, drop, length-append, length-drop, take-append-drop}
 use lib.Seq.{take-add, take-take, drop-drop, drop-cons, length-take-le}
 use native.Mathlib.Nat.{pow-succ'}
 use native.Mathlib.Omega.{arith}
-use Rattle.base.specs.Lists.{Every}
-use Rattle.base.specs.ListLaws.{every-append, every-take, every-drop}
+use Rattle.base.specs.Lists.{Every, total}
+use Rattle.base.specs.ListLaws.{every-append, every-take, every-drop, drop-take, total-append}
 use Rattle.sizes.specs.Sizes.{candidates, leafSlots, Fits}
 use Rattle.sizes.specs.SizeLaws.{candidate-below}
 use Rattle.sizes.specs.Fit.{fits-count, fits-halves, fits-leaf}
 use Rattle.rules.specs.Tree.{Tree, leaf, node, Balanced}
+use Rattle.rank_tree.specs.Ranges.{Perfect}
+use Rattle.rank_tree.specs.Counts.{Holds}
 use Rattle.layout.specs.Leaf.{spread, nonzero}
 use Rattle.layout.specs.Layout.{leafCounts, layLeaves}
-use Rattle.layout.specs.Room.{total}
-use Rattle.layout.specs.ListLaws.{drop-take, total-append}
 use Rattle.layout.specs.LeafLaws.{length-spread, nonzero-append, nonzero-spread}
-use Rattle.layout.specs.CountLaws.{HasLevels, Holds}
 
 -- ---- the numbers of entries of the leaves
 
-pub length-leafCounts : (levels n : ℕ) (t : Tree) → HasLevels levels t → length (leafCounts n t) ≡ 2 ^ levels
-unfolding HasLevels leafCounts
+pub length-leafCounts : (levels n : ℕ) (t : Tree) → Perfect levels t → length (leafCounts n t) ≡ 2 ^ levels
+unfolding Perfect leafCounts
 length-leafCounts zero n leaf has = refl
 length-leafCounts (suc levels) n (node b l r) has =
     length-append (leafCounts b l) (leafCounts (n - b) r)
     ∙ rw (length-leafCounts levels b l (has .0), length-leafCounts levels (n - b) r (has .1), pow-succ' 2 levels) (omega arith)
 
 -- The leaves of a range stand one after the other at the end of its counts.
-pub holds-leaves : (levels : ℕ) (counts : List ℕ) (k n : ℕ) (t : Tree) → HasLevels levels t → (k + 1) * 2 ^ levels ≤ length counts
+pub holds-leaves : (levels : ℕ) (counts : List ℕ) (k n : ℕ) (t : Tree) → Perfect levels t → (k + 1) * 2 ^ levels ≤ length counts
     → Holds counts k n t → take (2 ^ levels) (drop (k * 2 ^ levels) counts) ≡ leafCounts n t
-unfolding HasLevels Holds leafCounts
+unfolding Perfect Holds leafCounts
 holds-leaves zero counts k n leaf has room w =
     let e : k * 2 ^ 0 ≡ k = omega arith in rw (e, drop-cons counts k 0 (omega arith), w)
 holds-leaves (suc levels) counts k n (node b l r) has room w =

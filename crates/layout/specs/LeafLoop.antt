@@ -12,9 +12,9 @@ use native.Mathlib.Omega.{arith}
 use borrow.Author.Count.{below-more}
 use Rattle.base.specs.Cases.{ifLt}
 use Rattle.base.specs.CaseLaws.{ifLt-yes, ifLt-no, lt-or-ge}
+use Rattle.base.specs.ListLaws.{length-part, part-at}
 use Rattle.layout.specs.Leaf.{slotOf, Positions, spread}
 use Rattle.layout.specs.Ready.{LeafReady}
-use Rattle.layout.specs.ListLaws.{length-part, part-at}
 use Rattle.layout.specs.LeafLaws.{slotOf-positions, length-spread, spread-entry, spread-gap}
 
 -- After i of s slots: k of the n entries are behind, the others ahead, and `next` is the slot of entry k, or s where there is none.
@@ -109,7 +109,7 @@ module _ {old : List ℕ} {from s : ℕ} {list : List ℕ} {at n : ℕ} (ready :
           (sym
           (rw (entry-here (w .passed) more e)
           (spread-entry s n entries length-entries (ready .fit) k (entry-left (w .passed) more e)
-          ∙ part-at list at n k (entry-left (w .passed) more e))));
+          ∙ part-at list at n k 0 (entry-left (w .passed) more e))));
     }
 
     pub written-gap : i < s → (i ≡ next → ⊥) → Written old from s list at n (set slots (from + i) 0) (i + 1) k next

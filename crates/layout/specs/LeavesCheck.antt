@@ -8,9 +8,9 @@ use lib.Seq.{drop-cons, drop-drop}
 use native.Mathlib.Nat.{mul-le-mul-left}
 use native.Mathlib.Numerals.{add-one}
 use native.Mathlib.Omega.{arith}
+use Rattle.base.specs.ListLaws.{every-getD, length-part, part-at}
 use Rattle.layout.specs.Ready.{LeafToCheck, LeavesToCheck}
 use Rattle.layout.specs.Check.{leafTest, leavesTest}
-use Rattle.layout.specs.ListLaws.{every-at, length-part, part-at}
 
 -- The first j leaves, up to the slot `from`, are as they should be: the test comes to that of the others.
 pub record Remaining (all : List ℕ) (s : ℕ) (ns : List ℕ) (j from : ℕ) : Type 0 where
@@ -34,7 +34,7 @@ module _ {all : List ℕ} {s : ℕ} {counts : List ℕ} {first leaves : ℕ} (re
 
     module _ {n : ℕ} (more : j < leaves) (here : n ≡ getD counts (first + j) 0) where
       number-at : getD numbers j 0 ≡ n
-      number-at = part-at counts first leaves j more ∙ sym here
+      number-at = part-at counts first leaves j 0 more ∙ sym here
 
       next-number : drop j numbers ≡ n ∷ drop (j + 1) numbers
       next-number = drop-cons numbers j 0 (omega (arith, length-numbers)) ∙ rw (number-at, add-one j)
@@ -42,7 +42,7 @@ module _ {all : List ℕ} {s : ℕ} {counts : List ℕ} {first leaves : ℕ} (re
       pub next-leaf : LeafToCheck all from s n
       next-leaf = record {
         slots-room = omega (arith, w .from-is, mul-le-mul-left s more, ready .slots-room);
-        fit = rw number-at at (every-at (λ c. c ≤ s) numbers (ready .fit) j (omega (arith, length-numbers)));
+        fit = rw number-at at (every-getD (λ c. c ≤ s) numbers j 0 (ready .fit) (omega (arith, length-numbers)));
         small = ready .small;
       }
 

@@ -7,11 +7,11 @@ use lib.Seq.{length-take-le, take-suc, take-all, take-at, drop-at, drop-drop}
 use native.Mathlib.Nat.{mul-le-mul-left}
 use native.Mathlib.Numerals.{add-one}
 use native.Mathlib.Omega.{arith}
+use Rattle.base.specs.Lists.{total}
+use Rattle.base.specs.ListLaws.{every-getD, length-part, part-at, total-front, total-last}
 use Rattle.layout.specs.Leaf.{spread}
 use Rattle.layout.specs.Layout.{layLeaves}
-use Rattle.layout.specs.Room.{total}
 use Rattle.layout.specs.Ready.{LeafReady, LeavesReady}
-use Rattle.layout.specs.ListLaws.{every-at, length-part, part-at, total-front, total-last}
 use Rattle.layout.specs.LayoutLaws.{length-layLeaves, layLeaves-append}
 
 -- The first j leaves are laid out, up to the slot `to`, with the entries before `at`; the other slots are as they were.
@@ -65,7 +65,7 @@ module _ {old : List ℕ} {from s : ℕ} {counts : List ℕ} {first leaves : ℕ
 
     module _ {n : ℕ} (more : j < leaves) (here : n ≡ getD counts (first + j) 0) where
       at-number : getD numbers j 0 ≡ n
-      at-number = part-at counts first leaves j more ∙ sym here
+      at-number = part-at counts first leaves j 0 more ∙ sym here
 
       next-numbers : take (j + 1) numbers ≡ take j numbers ++ (n ∷ [])
       next-numbers = rw (add-one j, take-suc numbers j 0 (omega (arith, length-numbers)), at-number)
@@ -80,7 +80,7 @@ module _ {old : List ℕ} {from s : ℕ} {counts : List ℕ} {first leaves : ℕ
       leaf-ready = record {
         slots-room = omega (arith, length-laid, slots-left);
         list-room = omega (arith, next-total, total-front (j + 1) numbers, ready .list-room);
-        fit = rw at-number at (every-at (λ c. c ≤ s) numbers (ready .fit) j (omega (arith, length-numbers)));
+        fit = rw at-number at (every-getD (λ c. c ≤ s) numbers j 0 (ready .fit) (omega (arith, length-numbers)));
         small = ready .small;
       }
 

@@ -5,11 +5,10 @@ pub mod Sheet
 pub mod Room
 pub mod Ready
 pub mod Check
+pub mod Quotient
 pub mod Examples
-pub mod ListLaws
-pub mod BoolLaws
 pub mod LeafLaws
-pub mod CountLaws
+pub mod QuotientLaws
 pub mod LayoutLaws
 pub mod SheetLaws
 pub mod LeafLoop

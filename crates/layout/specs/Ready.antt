@@ -3,10 +3,9 @@ use mathlib.Core.Path.{_≡_}
 use mathlib.Core.List.{List, _++_}
 use Prim.Native.Nat.{ℕ, _+_, _*_, _^_, _≤_, _<_}
 use lib.ListN.{length, getD, take, drop}
-use Rattle.base.specs.Lists.{Every}
+use Rattle.base.specs.Lists.{Every, total}
 use Rattle.sizes.specs.Sizes.{Allowed, height, leafSlots, slots, candidates, Fits}
 use Rattle.layout.specs.Leaf.{nonzero}
-use Rattle.layout.specs.Room.{total}
 
 -- A leaf of s slots from `from` on, for the n entries of a list from `at` on.
 pub record LeafReady (slots : List ℕ) (from s : ℕ) (list : List ℕ) (at n : ℕ) : Type 0 where
@@ -48,21 +47,25 @@ pub record LeavesToCheck (slots : List ℕ) (s : ℕ) (counts : List ℕ) (first
   pub fit : Every (λ n. n ≤ s) (take leaves (drop first counts))
   pub small : s < 2 ^ 32
 
--- In a sheet of size M, the range k at depth d, which is no leaf.
-pub record RangeToCheck (counts : List ℕ) (M d k : ℕ) : Type 0 where
+-- The range k, which is no leaf and has c candidates.
+pub record RangeToCheck (counts : List ℕ) (c k : ℕ) : Type 0 where
   pub halves : 2 * k + 1 < length counts
-  pub count : candidates M d ≤ getD counts k 0
-  pub least : 1 < M
-  pub most : M < 2 ^ 32
-  pub deep : d < 32
+  pub count : c ≤ getD counts k 0
 
--- The range k at depth d, `levels` above the leaves, and the ranges below it.
-pub record TreeToCheck (counts : List ℕ) (M levels d k : ℕ) : Type 0 where
+-- The range k with c candidates, `levels` above the leaves, and the ranges below it, in a sheet of some size at some depth.
+pub record BranchToCheck (counts : List ℕ) (c levels k : ℕ) : Type 0 where
+  pub size : ℕ
+  pub depth : ℕ
+  pub c-is : c ≡ candidates size depth
   pub room : (k + 1) * 2 ^ levels ≤ length counts
-  pub fits : Fits M levels d (getD counts k 0)
-  pub least : 0 < levels → 1 < M
+  pub fits : Fits size levels depth (getD counts k 0)
+
+-- The root of a sheet of size M, h above the leaves, and the ranges below it.
+pub record TreeToCheck (counts : List ℕ) (M h : ℕ) : Type 0 where
+  pub room : 2 * 2 ^ h ≤ length counts
+  pub fits : Fits M h 0 (getD counts 1 0)
+  pub least : 0 < h → 1 < M
   pub most : M < 2 ^ 32
-  pub deep : levels + d ≤ 32
 
 -- Room for the counts of every size that the entries can have.
 pub record CountsToCheck (entries : ℕ) (counts : List ℕ) : Type 0 where

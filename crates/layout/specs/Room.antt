@@ -1,6 +1,5 @@
--- What a capacity has to meet, and the sum of some counts. Definitions only: they assume nothing.
-use mathlib.Core.List.{List, [], _∷_}
-use Prim.Native.Nat.{ℕ, _+_, _*_, _^_, _≤_}
+-- What a capacity has to meet. Definitions only: they assume nothing.
+use Prim.Native.Nat.{ℕ, _*_, _^_, _≤_}
 use Rattle.sizes.specs.Sizes.{Allowed, height, slots}
 use Rattle.layout.specs.Layout.{Capacity}
 
@@ -8,8 +7,3 @@ use Rattle.layout.specs.Layout.{Capacity}
 pub record Roomy (cap : Capacity) : Type 0 where
   pub slots-fit : (N M : ℕ) → N ≤ cap .entries → Allowed N M → slots M ≤ cap .slots
   pub counts-fit : (N M : ℕ) → N ≤ cap .entries → Allowed N M → 2 * 2 ^ height M ≤ cap .counts
-
--- The sum of some numbers.
-unfoldable pub total : List ℕ → ℕ
-total [] = 0
-total (n ∷ ns) = n + total ns

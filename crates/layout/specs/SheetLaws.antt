@@ -10,17 +10,19 @@ use lib.ListN.{length, replicate, length-append, length-replicate}
 use native.Mathlib.Omega.{arith}
 use borrow.Author.Tests.{le-leb, lt-ltb, leb-true, ltb-true}
 use Rattle.base.specs.Lists.{equalLists}
+use Rattle.base.specs.BoolLaws.{and-both, true-or-false}
 use Rattle.base.specs.ListLaws.{equal-itself, equal-sound}
 use Rattle.sizes.specs.Sizes.{height, leafSlots, slots, candidates, windowStart, Fits}
 use Rattle.sizes.specs.Fit.{fit}
 use Rattle.rules.specs.Tree.{Tree, leaf, node, Balanced, Shape, IsShape}
+use Rattle.rank_tree.specs.Ranges.{Perfect}
+use Rattle.rank_tree.specs.RangeLaws.{balanced-perfect}
+use Rattle.rank_tree.specs.ShapeCountLaws.{length-shapeCounts, shapeCounts-read, shapeCounts-size}
 use Rattle.layout.specs.Leaf.{nonzero}
 use Rattle.layout.specs.Layout.{Capacity, Store, leafCounts, layLeaves, padTo, countOrder, laySlots, layCounts, layOut}
 use Rattle.layout.specs.Sheet.{IsContents, IsSheet, listOf, shapeOf, balancedTest, shapeTest, sheetTest, Contents, decode}
 use Rattle.layout.specs.Room.{Roomy}
-use Rattle.layout.specs.BoolLaws.{and-both, true-or-false}
 use Rattle.layout.specs.LeafLaws.{nonzero-positive, nonzero-append, nonzero-zeros}
-use Rattle.layout.specs.CountLaws.{length-shapeCounts, HasLevels, balanced-levels, shapeCounts-read, shapeCounts-size}
 use Rattle.layout.specs.LayoutLaws.{length-leafCounts, leafCounts-total, leafCounts-fit, length-layLeaves, nonzero-layLeaves}
 
 -- ---- the tests and what they test
@@ -85,8 +87,8 @@ module _ (cap : Capacity) (list : List ℕ) (s : Shape) (w : IsContents cap list
   contents-fits : Fits (s .size) (height (s .size)) 0 (length list)
   contents-fits = fit (length list) (s .size) (w .shape .allowed)
 
-  contents-levels : HasLevels (height (s .size)) (s .tree)
-  contents-levels = balanced-levels (s .size) (height (s .size)) 0 (length list) (s .tree) (w .shape .balanced)
+  contents-perfect : Perfect (height (s .size)) (s .tree)
+  contents-perfect = balanced-perfect (s .size) (height (s .size)) 0 (length list) (s .tree) (w .shape .balanced)
 
   pub leaves-layOut : nonzero (layLeaves (leafSlots (s .size)) (leafCounts (length list) (s .tree)) list) ≡ list
   leaves-layOut =
@@ -105,7 +107,7 @@ module _ (cap : Capacity) (list : List ℕ) (s : Shape) (w : IsContents cap list
       let ns = leafCounts (length list) (s .tree) in
       let leaves = layLeaves (leafSlots (s .size)) ns list in
       let used : length leaves ≡ slots (s .size)
-      = length-layLeaves (leafSlots (s .size)) ns list ∙ rw (length-leafCounts (height (s .size)) (length list) (s .tree) contents-levels) in
+      = length-layLeaves (leafSlots (s .size)) ns list ∙ rw (length-leafCounts (height (s .size)) (length list) (s .tree) contents-perfect) in
       length-append leaves (replicate (cap .slots - length leaves) 0)
       ∙ rw (length-replicate {A = ℕ} (cap .slots - length leaves) 0, used)
       (omega (arith, roomy .slots-fit (length list) (s .size) (w .room) (w .shape .allowed)))
@@ -122,8 +124,8 @@ module _ (cap : Capacity) (list : List ℕ) (s : Shape) (w : IsContents cap list
   shapeOf-layOut roomy =
       let room = roomy .counts-fit (length list) (s .size) (w .room) (w .shape .allowed) in
       rw (
-        shapeCounts-size (height (s .size)) (cap .counts) (length list) s contents-levels room,
-        shapeCounts-read (height (s .size)) (cap .counts) (length list) s contents-levels room,
+        shapeCounts-size (height (s .size)) (cap .counts) (length list) s contents-perfect room,
+        shapeCounts-read (height (s .size)) (cap .counts) (length list) s contents-perfect room,
       )
 
   pub test-layOut : Roomy cap → sheetTest cap (layOut cap list s) ≡ true

@@ -61,15 +61,14 @@ module _ {entries : ℕ} {counts : List ℕ} (ready : CountsToCheck entries coun
     pub counts-room : 2 * 2 ^ h ≤ length counts
     counts-room = rw (w .h-is) (ready .room n m (w .few) allowed)
 
-    pub root-ready : TreeToCheck counts m h 0 1
+    pub root-ready : TreeToCheck counts m h
     root-ready = record {
-      room = omega (arith, counts-room);
+      room = counts-room;
       fits = rw (w .h-is, ← w .n-is) (fit n m allowed);
       least =
           λ l.
           ⊎-elim (λ (small : m ≤ 64). omega (arith, w .h-is, height-small m small)) (λ (large : 64 < m). omega arith) (le-or-gt m 64);
       most = omega (arith, w .few, w .most, ready .few);
-      deep = omega (arith, height-bound);
     }
 
     module _ {t : Bool} (t-is : t ≡ treeTest counts m h 0 1) where

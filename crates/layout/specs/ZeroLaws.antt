@@ -1,16 +1,17 @@
 -- Laws of the test that every number of a list is 0, and of the loop that makes it. Assumes nothing.
 use mathlib.Core.Path.{_≡_, refl, sym, ap, ap₂, _∙_}
-use mathlib.Core.Bool.{true, false}
+use mathlib.Core.Bool.{Bool, true, false, _&&_}
 use mathlib.Core.List.{List, [], _∷_}
 use Prim.Native.Nat.{ℕ, zero, suc, _+_, _-_, _≤_, _<_}
+use lib.Bits.{bitOr, or-add-and, and-le-l, and-le-r}
 use lib.Dec.{eqb}
 use lib.ListN.{length, getD, drop, replicate, drop-of-length-le}
 use lib.Seq.{drop-cons, getD-drop}
 use native.Mathlib.Numerals.{add-one}
 use native.Mathlib.Omega.{arith}
-use borrow.Author.Tests.{eq-eqb, ne-eqb, eqb-true}
-use Rattle.base.specs.ListLaws.{and-true-left, and-true-right}
-use Rattle.layout.specs.CountLaws.{zeros-at}
+use borrow.Author.Tests.{eq-eqb, eqb-true}
+use Rattle.base.specs.BoolLaws.{and-true-left, and-true-right, and-both, tests-agree}
+use Rattle.base.specs.ListLaws.{replicate-at}
 use Rattle.layout.specs.Check.{allZero}
 
 pub zero-test : (n : ℕ) → allZero (replicate n 0) ≡ true
@@ -30,6 +31,25 @@ unfolding allZero
 zero-all [] h = refl
 zero-all (x ∷ xs) h = rw (eq-eqb x 0 (h 0), zero-all xs (λ i. h (suc i)))
 
+-- ---- numbers joined bit by bit
+
+and-assoc : (a b c : Bool) → ((a && b) && c) ≡ (a && (b && c))
+and-assoc true b c = refl
+and-assoc false b c = refl
+
+and-true : (a : Bool) → (a && true) ≡ a
+and-true true = refl
+and-true false = refl
+
+-- The bits of two numbers joined are 0 exactly where both numbers are.
+joined-zero : (a b : ℕ) → eqb (bitOr a b) 0 ≡ (eqb a 0 && eqb b 0)
+joined-zero a b =
+    tests-agree (eqb (bitOr a b) 0) (eqb a 0 && eqb b 0)
+    (λ h.
+    let none = eqb-true (bitOr a b) 0 h in
+    rw (eq-eqb a 0 (omega (arith, none, or-add-and a b, and-le-r a b)), eq-eqb b 0 (omega (arith, none, or-add-and a b, and-le-l a b))))
+    (λ h. let both = and-both (eqb a 0) (eqb b 0) h in rw (eqb-true a 0 (both .0), eqb-true b 0 (both .1)))
+
 -- ---- from the place i on
 
 module _ (xs : List ℕ) (i : ℕ) where
@@ -39,7 +59,7 @@ module _ (xs : List ℕ) (i : ℕ) where
       rw e at
       (sym (getD-drop i xs (j - i) 0)
       ∙ ap (λ (ys : List ℕ). getD ys (j - i) 0) (zero-sound (drop i xs) h)
-      ∙ zeros-at (length (drop i xs)) (j - i))
+      ∙ replicate-at 0 (length (drop i xs)) (j - i))
 
   pub zero-behind-test : ((j : ℕ) → i ≤ j → getD xs j 0 ≡ 0) → allZero (drop i xs) ≡ true
   zero-behind-test h = zero-all (drop i xs) (λ j. getD-drop i xs j 0 ∙ h (i + j) (omega arith))
@@ -48,11 +68,13 @@ module _ (xs : List ℕ) (i : ℕ) where
   unfolding allZero
   zero-end h = rw (drop-of-length-le xs h)
 
-  module _ (h : i < length xs) where
-    pub zero-next : getD xs i 0 ≡ 0 → allZero (drop i xs) ≡ allZero (drop (i + 1) xs)
-    unfolding allZero
-    zero-next e = rw (drop-cons xs i 0 h, eq-eqb (getD xs i 0) 0 e, add-one i)
+  -- Numbers joined bit by bit, and one more.
+  pub zero-joined : (joined : ℕ) → i < length xs
+      → (eqb joined 0 && allZero (drop i xs)) ≡ (eqb (bitOr joined (getD xs i 0)) 0 && allZero (drop (i + 1) xs))
+  unfolding allZero
+  zero-joined joined h =
+      rw (drop-cons xs i 0 h, joined-zero joined (getD xs i 0), add-one i)
+      (sym (and-assoc (eqb joined 0) (eqb (getD xs i 0) 0) (allZero (drop (suc i) xs))))
 
-    pub zero-stop : (getD xs i 0 ≡ 0 → ⊥) → allZero (drop i xs) ≡ false
-    unfolding allZero
-    zero-stop ne = rw (drop-cons xs i 0 h, ne-eqb (getD xs i 0) 0 ne)
+  pub zero-joined-all : (joined : ℕ) → length xs ≤ i → (eqb joined 0 && allZero (drop i xs)) ≡ eqb joined 0
+  zero-joined-all joined h = rw (zero-end h) (and-true (eqb joined 0))

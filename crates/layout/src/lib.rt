@@ -3,44 +3,84 @@ ghost use mathlib.Core.Path.{_≡_};
 ghost use mathlib.Core.List.{_++_};
 ghost use Prim.Native.Nat.{_+_, _-_, _*_, _^_, _≤_, _<_};
 ghost use lib.ListN.{length, getD, take, drop};
-ghost use Rattle.base.specs.Cases.{ifLt};
-ghost use Rattle.layout.specs.Leaf.{slotOf, spread, nonzero};
+ghost use Rattle.layout.specs.Leaf.{spread, nonzero};
+ghost use Rattle.layout.specs.Quotient.{divided, added, positionOf};
 ghost use Rattle.layout.specs.Layout.{layLeaves};
 ghost use Rattle.layout.specs.Sheet.{sheetTest};
 ghost use Rattle.layout.specs.Room.{Roomy};
-ghost use Rattle.layout.specs.Ready.{LeafReady, LeavesReady, GatherReady, Gathered, LeafToCheck, LeavesToCheck, RangeToCheck, TreeToCheck, CountsToCheck, SlotsToCheck};
-ghost use Rattle.layout.specs.Check.{allZero, leafTest, leavesTest, rangeTest, treeTest, countsTest, slotsTest};
+ghost use Rattle.layout.specs.Ready.{LeafReady, LeavesReady, GatherReady, Gathered, LeafToCheck, LeavesToCheck, RangeToCheck, BranchToCheck, TreeToCheck, CountsToCheck, SlotsToCheck};
+ghost use Rattle.layout.specs.Check.{allZero, leafTest, leavesTest, rangeTest, branchTest, treeTest, countsTest, slotsTest};
 use sizes::Size;
 use sizes::window_start;
 
-// The slot of entry k of n in a leaf of s slots, or s where there is no entry k.
-fn next_slot(s: usize, n: usize, k: usize) -> usize
-    requires fit { ⌜ n ≤ s ⌝ }
-    requires small { ⌜ s < 2 ^ 32 ⌝ }
-    ensures { λ r. ⌜ r ≡ ifLt k n (slotOf s n k) s ⌝ }
-{
-    if k < n {
-        return k * s / n;
+// A quotient, rounded down, and its remainder.
+struct Quotient {
+    whole: usize,
+    rest: usize,
+}
+
+impl Quotient {
+    // The sum with another quotient by the same n.
+    fn plus(self, other: Quotient, n: usize) -> Quotient
+        requires wholes { ⌜ self .whole + other .whole < 2 ^ 62 ⌝ }
+        requires rests { ⌜ self .rest + other .rest < 2 ^ 62 ⌝ }
+        ensures { λ r. ⌜ r ≡ added n self other ⌝ }
+    {
+        let whole = self.whole + other.whole;
+        let rest = self.rest + other.rest;
+        if rest < n {
+            return Quotient {
+                whole: whole,
+                rest: rest,
+            };
+        }
+        Quotient {
+            whole: whole + 1,
+            rest: rest - n,
+        }
     }
-    s
+}
+
+// x divided by n; by 0 it is 0, and everything remains.
+fn divide(x: usize, n: usize) -> Quotient
+    ensures { λ r. ⌜ r ≡ divided x n ⌝ }
+{
+    if n == 0 {
+        return Quotient { whole: 0, rest: x };
+    }
+    Quotient {
+        whole: x / n,
+        rest: x % n,
+    }
+}
+
+// The position of the first of n entries in a leaf of s slots, or s where there is none. Those of the others follow by adding s divided by n.
+fn first_position(s: usize, n: usize) -> Quotient
+    ensures { λ r. ⌜ r ≡ positionOf s n 0 ⌝ }
+{
+    if n == 0 {
+        return Quotient { whole: s, rest: 0 };
+    }
+    Quotient { whole: 0, rest: 0 }
 }
 
 // Writes n entries of the list, from `at` on, into s slots from `from` on: each slot once, from left to right, an entry or 0.
-pub fn spread_leaf(slots: &mut [u64], from: usize, s: usize, list: &[u64], at: usize, n: usize)
+fn spread_leaf(slots: &mut [u64], from: usize, s: usize, list: &[u64], at: usize, n: usize)
     requires { ⌜ LeafReady (now slots) from s (now list) at n ⌝ }
     ensures { λ r. ⌜ now (slots .exit)
         ≡ take from (now (slots .entry))
         ++ spread s (take n (drop at (now (list .entry))))
         ++ drop (from + s) (now (slots .entry)) ⌝ }
 {
+    let step = divide(s, n);
+    let mut position = first_position(s, n);
     let mut i: usize = 0;
     let mut k: usize = 0;
-    let mut next = next_slot(s, n, k);
     while i < s {
-        if i == next {
+        if i == position.whole {
             slots[from + i] = list[at + k];
             k += 1;
-            next = next_slot(s, n, k);
+            position = position.plus(step, n);
         } else {
             slots[from + i] = 0;
         }
@@ -103,56 +143,70 @@ pub fn gather(slots: &[u64], from: usize, len: usize, list: &mut [u64]) -> usize
     n
 }
 
-// The s slots from `from` on hold n entries at the places of the leaf rule, and 0 in every other slot.
+// The number of entries in `len` slots from `from` on.
+fn entries_in(slots: &[u64], from: usize, len: usize) -> usize
+    requires room { ⌜ from + len ≤ length (now slots) ⌝ }
+    ensures { λ r. ⌜ r ≡ length (nonzero (take len (drop from (now (slots .entry))))) ⌝ }
+{
+    let mut n: usize = 0;
+    let mut i: usize = 0;
+    while i < len {
+        let content = slots[from + i];
+        i += 1;
+        if content != 0 {
+            n += 1;
+        }
+    }
+    n
+}
+
+// The s slots from `from` on hold n entries at the places of the leaf rule, and 0 in every other slot: there are n entries, and no place is
+// empty.
 fn leaf_is_spread(slots: &[u64], from: usize, s: usize, n: usize) -> bool
     requires { ⌜ LeafToCheck (now slots) from s n ⌝ }
     ensures { λ r. ⌜ r ≡ leafTest s n (take s (drop from (now (slots .entry)))) ⌝ }
 {
-    let mut i: usize = 0;
+    if entries_in(slots, from, s) != n {
+        return false;
+    }
+    let step = divide(s, n);
+    let mut position = first_position(s, n);
     let mut k: usize = 0;
-    let mut next = next_slot(s, n, k);
-    while i < s {
-        let held = slots[from + i];
-        if i == next {
-            if held == 0 {
-                return false;
-            }
-            k += 1;
-            next = next_slot(s, n, k);
-        } else if held != 0 {
+    while k < n {
+        let slot = position.whole;
+        if slots[from + slot] == 0 {
             return false;
         }
-        i += 1;
-    }
-    true
-}
-
-// Every slot from `from` on is 0.
-fn slots_are_zero(slots: &[u64], from: usize) -> bool
-    ensures { λ r. ⌜ r ≡ allZero (drop from (now (slots .entry))) ⌝ }
-{
-    let mut i = from;
-    while i < slots.len() {
-        if slots[i] != 0 {
-            return false;
-        }
-        i += 1;
-    }
-    true
-}
-
-// Every count from the range number `from` on is 0.
-fn counts_are_zero(counts: &[u32], from: usize) -> bool
-    ensures { λ r. ⌜ r ≡ allZero (drop from (now (counts .entry))) ⌝ }
-{
-    let mut k = from;
-    while k < counts.len() {
-        if counts[k] != 0 {
-            return false;
-        }
+        position = position.plus(step, n);
         k += 1;
     }
     true
+}
+
+// Every slot from `from` on is 0. All are joined bit by bit and compared once, since in a sheet all have to be looked at.
+fn slots_are_zero(slots: &[u64], from: usize) -> bool
+    ensures { λ r. ⌜ r ≡ allZero (drop from (now (slots .entry))) ⌝ }
+{
+    let mut joined: u64 = 0;
+    let mut i = from;
+    while i < slots.len() {
+        joined = joined | slots[i];
+        i += 1;
+    }
+    joined == 0
+}
+
+// Every count from the range number `from` on is 0, found in the same way.
+fn counts_are_zero(counts: &[u32], from: usize) -> bool
+    ensures { λ r. ⌜ r ≡ allZero (drop from (now (counts .entry))) ⌝ }
+{
+    let mut joined: u32 = 0;
+    let mut k = from;
+    while k < counts.len() {
+        joined = joined | counts[k];
+        k += 1;
+    }
+    joined == 0
 }
 
 // Leaves of s slots one after the other, from the first slot on: their numbers of entries stand in the counts from `first` on.
@@ -173,13 +227,11 @@ fn leaves_are_spread(slots: &[u64], s: usize, counts: &[u32], first: usize, leav
     true
 }
 
-// The range k at depth d, which is no leaf: its balance entry is a candidate, and the counts of its halves add up to its own.
-fn range_is_balanced(m: usize, d: usize, k: usize, counts: &[u32]) -> bool
-    requires { ⌜ RangeToCheck (now counts) m d k ⌝ }
-    ensures { λ r. ⌜ r ≡ rangeTest (now (counts .entry)) m d k ⌝ }
+// The range k, which is no leaf and has c candidates: its balance entry is one of them, and the counts of its halves add up to its own.
+fn range_is_balanced(c: usize, k: usize, counts: &[u32]) -> bool
+    requires { ⌜ RangeToCheck (now counts) c k ⌝ }
+    ensures { λ r. ⌜ r ≡ rangeTest (now (counts .entry)) c k ⌝ }
 {
-    let size = Size { m: m };
-    let c = size.candidates(d);
     let n = count_at(counts, k);
     let b = count_at(counts, 2 * k);
     let start = window_start(n, c);
@@ -193,21 +245,35 @@ fn range_is_balanced(m: usize, d: usize, k: usize, counts: &[u32]) -> bool
     right == n - b
 }
 
-// The range k at depth d, `levels` above the leaves, and the ranges below it.
-fn tree_is_balanced(m: usize, levels: usize, d: usize, k: usize, counts: &[u32]) -> bool
-    requires { ⌜ TreeToCheck (now counts) m levels d k ⌝ }
-    ensures { λ r. ⌜ r ≡ treeTest (now (counts .entry)) m levels d k ⌝ }
+// The range k with c candidates, `levels` above the leaves, and the ranges below it: a half has half as many candidates, rounded up.
+fn branch_is_balanced(c: usize, levels: usize, k: usize, counts: &[u32]) -> bool
+    requires { ⌜ BranchToCheck (now counts) c levels k ⌝ }
+    ensures { λ r. ⌜ r ≡ branchTest (now (counts .entry)) c levels k ⌝ }
 {
     if levels == 0 {
         return true;
     }
-    if !range_is_balanced(m, d, k, counts) {
+    if !range_is_balanced(c, k, counts) {
         return false;
     }
-    if !tree_is_balanced(m, levels - 1, d + 1, 2 * k, counts) {
+    let below = c - c / 2;
+    if !branch_is_balanced(below, levels - 1, 2 * k, counts) {
         return false;
     }
-    tree_is_balanced(m, levels - 1, d + 1, 2 * k + 1, counts)
+    branch_is_balanced(below, levels - 1, 2 * k + 1, counts)
+}
+
+// The ranges of a sheet of size m, h above the leaves at its root.
+fn tree_is_balanced(m: usize, h: usize, counts: &[u32]) -> bool
+    requires { ⌜ TreeToCheck (now counts) m h ⌝ }
+    ensures { λ r. ⌜ r ≡ treeTest (now (counts .entry)) m h 0 1 ⌝ }
+{
+    if h == 0 {
+        return true;
+    }
+    let size = Size { m: m };
+    let c = size.candidates(0);
+    branch_is_balanced(c, h, 1, counts)
 }
 
 // The greatest size parameter that n entries can have.
@@ -239,7 +305,7 @@ fn counts_are_shaped(entries: usize, counts: &[u32]) -> bool
     }
     let size = Size { m: m };
     let h = size.height();
-    if !tree_is_balanced(m, h, 0, 1, counts) {
+    if !tree_is_balanced(m, h, counts) {
         return false;
     }
     counts_are_zero(counts, 2 * sizes::power(h))

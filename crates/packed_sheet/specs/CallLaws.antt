@@ -29,7 +29,7 @@ use Rattle.packed_sheet.specs.Call.{Call, insert, delete, read, place, c
 use Rattle.packed_sheet.specs.Causes.{firstOf, contentsFor, argumentCause}
 use Rattle.packed_sheet.specs.Outcome.{Outcome, refused, effect, answerOf, entriesOf, finished, outcome}
 use Rattle.packed_sheet.specs.Opening.{storeOf, left, Opening, Changeable, ChangedAs}
-use Rattle.packed_sheet.specs.OutcomeLaws.{outcome-argument, outcome-runs, Found, opened-sheet, opened-refused, changed-outcome}
+use Rattle.packed_sheet.specs.OutcomeLaws.{outcome-argument, outcome-runs, SheetFound, opened-sheet, opened-refused, changed-outcome}
 
 -- The list of a sheet is what stands in its slots.
 decoded-list : (cap : Capacity) (store : Store) (c : Contents) → decode cap store ≡ some c → c .list ≡ nonzero (store .slots)
@@ -46,7 +46,7 @@ module _ (cap : Capacity) (slots counts : List ℕ) where
 
   -- ---- by the look at the store
 
-  pub found : (answer : Opened) (work : List ℕ) (n m : ℕ) → Opening cap store answer work → answer ≡ opened.Sheet n m → Found cap store n m
+  pub found : (answer : Opened) (work : List ℕ) (n m : ℕ) → Opening cap store answer work → answer ≡ opened.Sheet n m → SheetFound cap store n m
   found answer work n m w e = opened-sheet cap store n m (sym (w .found) ∙ e)
 
   pub refused-before : (call : Call) (tape output : List ℕ) (answer : Opened) (work : List ℕ) (cause : Cause)
@@ -55,7 +55,7 @@ module _ (cap : Capacity) (slots counts : List ℕ) where
   unfolding refused
   refused-before call tape output answer work cause looks w e = sym (opened-refused cap store call tape output cause looks (sym (w .found) ∙ e))
 
-  module _ {n m : ℕ} (w : Found cap store n m) where
+  module _ {n m : ℕ} (w : SheetFound cap store n m) where
     -- ---- by the arguments
 
     refused-by : (call : Call) (tape output : List ℕ) (cause : Cause) → contentsFor cap call store ≡ decode cap store

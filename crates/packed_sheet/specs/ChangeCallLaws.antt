@@ -18,10 +18,11 @@ use Rattle.rank_tree.specs.declared.Part.{Part}
 use Rattle.rank_tree.specs.declared.Updated.{Updated}
 use Rattle.rank_tree.specs.declared.Updated.the-variants as updated
 use Rattle.rank_tree.specs.Counts.{readTree, shapeCounts}
+use Rattle.rank_tree.specs.RangeLaws.{balanced-perfect}
+use Rattle.rank_tree.specs.ShapeCountLaws.{length-shapeCounts, shapeCounts-read}
 use Rattle.rank_tree.specs.Update.{shapeIn, Ready, Confined, UpdatedAs}
 use Rattle.layout.specs.Layout.{Store, countOrder, laySlots, layCounts, layOut}
 use Rattle.layout.specs.Sheet.{IsContents, Contents, decode}
-use Rattle.layout.specs.CountLaws.{balanced-levels, length-shapeCounts, shapeCounts-read}
 use Rattle.layout.specs.SheetLaws.{decode-sound, length-slots}
 use Rattle.part_layout.specs.ChangeList.{changeList}
 use Rattle.part_layout.specs.ChangeListLaws.{length-changed}
@@ -131,7 +132,7 @@ module _ {change : Change} {n m : ℕ} {slots counts work : List ℕ} (p : Chang
       let tree : readTree (height m) work 1 ≡ s .tree
       = ap₂ (λ (k : ℕ) (xs : List ℕ). readTree (height k) xs 1) (sym (p .size)) counts-are
       ∙ shapeCounts-read (height (s .size)) 256 n s
-      (balanced-levels (s .size) (height (s .size)) 0 n (s .tree) (shape-n .balanced))
+      (balanced-perfect (s .size) (height (s .size)) 0 n (s .tree) (shape-n .balanced))
       (clubs-roomy .counts-fit n (s .size) few (shape-n .allowed)) in
       ap₂ {C = Shape} (λ (M : ℕ) (t : Tree). record { size = M; tree = t }) (sym (p .size)) tree
 

@@ -10,10 +10,11 @@ use lib.Dec.{eqb}
 use lib.ListN.{length, getD}
 use Rattle.sizes.specs.Sizes.{height}
 use Rattle.sizes.specs.Capacity.{slots-2047, counts-2047}
+use Rattle.rank_tree.specs.RangeLaws.{balanced-perfect}
+use Rattle.rank_tree.specs.ShapeCountLaws.{shapeCounts-total}
 use Rattle.layout.specs.Layout.{Store, countOrder, layCounts, layOut}
 use Rattle.layout.specs.Sheet.{listOf, shapeOf, sheetTest}
 use Rattle.layout.specs.Room.{Roomy}
-use Rattle.layout.specs.CountLaws.{balanced-levels, shapeCounts-total}
 use Rattle.layout.specs.SheetLaws.{test-sound, decode-true, decode-false}
 use Rattle.packed_sheet.specs.declared.Cause.the-variants.{Lengths, NotASheet}
 use Rattle.packed_sheet.specs.declared.Opened.the-variants as opened
@@ -87,7 +88,7 @@ module _ (slots counts : List ℕ) where
           sym
           (ap (λ (t : Store). getD (t .counts) 1 0) (w .1)
           ∙ shapeCounts-total (height (s .size)) 256 N s
-          (balanced-levels (s .size) (height (s .size)) 0 N (s .tree) (w .0 .shape .balanced))
+          (balanced-perfect (s .size) (height (s .size)) 0 N (s .tree) (w .0 .shape .balanced))
           (clubs-roomy .counts-fit N (s .size) (w .0 .room) (w .0 .shape .allowed)))
 
       pub open-sheet : test ≡ true → Opening clubs store (opened.Sheet (getD work 1 0) (getD work 0 0)) work

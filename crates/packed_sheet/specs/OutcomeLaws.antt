@@ -51,7 +51,7 @@ module _ (cap : Capacity) (call : Call) (tape : List ℕ) (store : Store) (outpu
 -- ---- a store looked at
 
 -- A sheet was found.
-pub record Found (cap : Capacity) (store : Store) (n m : ℕ) : Type 0 where
+pub record SheetFound (cap : Capacity) (store : Store) (n m : ℕ) : Type 0 where
   pub right : lengthsWrong cap store ≡ false
   pub contents : Contents
   pub decoded : decode cap store ≡ some contents
@@ -59,16 +59,16 @@ pub record Found (cap : Capacity) (store : Store) (n m : ℕ) : Type 0 where
   pub size : contents .shape .size ≡ m
 
 module _ (cap : Capacity) (store : Store) where
-  pub opened-sheet : (n m : ℕ) → openedAs cap store ≡ opened.Sheet n m → Found cap store n m
+  pub opened-sheet : (n m : ℕ) → openedAs cap store ≡ opened.Sheet n m → SheetFound cap store n m
   unfolding openedAs openedBy
   opened-sheet n m h = by-lengths (lengthsWrong cap store) refl h
     where
-      by-contents : lengthsWrong cap store ≡ false → (o : Option Contents) → decode cap store ≡ o → openedBy o ≡ opened.Sheet n m → Found cap store n m
+      by-contents : lengthsWrong cap store ≡ false → (o : Option Contents) → decode cap store ≡ o → openedBy o ≡ opened.Sheet n m → SheetFound cap store n m
       by-contents right none e h = let z : _≡_ {A = ℕ} 0 1 = cc in absurd (omega arith)
       by-contents right (some c) e h = record { right = right; contents = c; decoded = e; count = cc; size = cc }
 
       by-lengths : (b : Bool) → lengthsWrong cap store ≡ b
-          → elim b [ true ↦ opened.Refused Lengths | false ↦ openedBy (decode cap store) ] ≡ opened.Sheet n m → Found cap store n m
+          → elim b [ true ↦ opened.Refused Lengths | false ↦ openedBy (decode cap store) ] ≡ opened.Sheet n m → SheetFound cap store n m
       by-lengths true e h = let z : _≡_ {A = ℕ} 0 1 = cc in absurd (omega arith)
       by-lengths false e h = by-contents e (decode cap store) refl h
 

@@ -3,7 +3,7 @@ use mathlib.Core.Path.{_≡_}
 use mathlib.Core.List.{List, _++_}
 use Prim.Native.Nat.{ℕ, _+_, _*_, _^_, _≤_, _<_, max}
 use lib.ListN.{length, take, drop}
-use Rattle.base.specs.Lists.{Every}
+use Rattle.base.specs.Lists.{Every, total}
 use Rattle.sizes.specs.Sizes.{leafSlots}
 use Rattle.rules.specs.declared.Change.{Change}
 use Rattle.rules.specs.Compare.{countAfter}
@@ -11,7 +11,6 @@ use Rattle.rules.specs.Rules.{atRank, InReach}
 use Rattle.rank_tree.specs.declared.Part.{Part}
 use Rattle.layout.specs.Leaf.{nonzero}
 use Rattle.layout.specs.Layout.{layLeaves}
-use Rattle.layout.specs.Room.{total}
 use Rattle.part_layout.specs.ChangeList.{changeList}
 use Rattle.part_layout.specs.Region.{leavesOf}
 use Rattle.part_layout.specs.Plan.{partFrom, partLength, partCounts, zeroed, PartIn}

@@ -6,16 +6,15 @@ use native.Mathlib.Omega.{arith}
 use native.Mathlib.Nat.{mul-le-mul-left, mul-add}
 use lib.ListN.{length, take, drop, replicate, length-append, length-drop}
 use lib.Seq.{take-at}
+use Rattle.base.specs.Lists.{total}
 use Rattle.sizes.specs.Sizes.{leafSlots, slots}
 use Rattle.sizes.specs.SizeLaws.{slots-le, leafSlots-most}
 use Rattle.rules.specs.declared.Change.{Change}
-use Rattle.rules.specs.declared.Change.the-variants.{Insert, Delete}
 use Rattle.rules.specs.Compare.{countAfter}
 use Rattle.rules.specs.Rules.{atRank, InReach}
-use Rattle.rules.specs.ChangeLaws.{count-rank}
+use Rattle.rules.specs.ChangeLaws.{count-most, count-rank}
 use Rattle.rank_tree.specs.declared.Part.{Part}
 use Rattle.layout.specs.Leaf.{nonzero}
-use Rattle.layout.specs.Room.{total}
 use Rattle.layout.specs.Ready.{LeavesReady, GatherReady, Gathered}
 use Rattle.layout.specs.LayoutLaws.{layLeaves-take}
 use Rattle.part_layout.specs.ChangeList.{changeList}
@@ -71,11 +70,6 @@ pub zeroed-part : (M M′ : ℕ) (part : Part) (slots cleared : List ℕ) (from�
     → cleared ≡ zeroed (partFrom M′ part + partLength M′ part) (max (partFrom M′ part + partLength M′ part) (partFrom M part + partLength M part)) slots
 unfolding zeroed
 zeroed-part M M′ part slots cleared from′ len′ from len last f′ l′ f l m z = z ∙ rw (m, f′, l′, f, l)
-
-count-most : (change : Change) (n : ℕ) → countAfter change n ≤ n + 1
-unfolding countAfter
-count-most (Insert i) n = omega arith
-count-most (Delete i) n = omega arith
 
 -- The list before, with the n entries of the part gathered into it, and with these changed.
 module _ {M M′ : ℕ} {part : Part} {change here : Change} {n : ℕ} {counts slots list gathered : List ℕ}

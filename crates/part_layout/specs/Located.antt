@@ -11,8 +11,8 @@ use Rattle.rules.specs.Tree.{Tree, Balanced}
 use Rattle.rules.specs.Compare.{countAfter}
 use Rattle.rules.specs.Rules.{atRank, InReach}
 use Rattle.rank_tree.specs.declared.Part.{Part}
+use Rattle.rank_tree.specs.Counts.{Holds}
 use Rattle.layout.specs.Layout.{leafCounts, layLeaves}
-use Rattle.layout.specs.CountLaws.{Holds}
 use Rattle.part_layout.specs.ChangeList.{changeList}
 
 -- A range with n entries and tree t at a depth of a sheet of size M, `levels` above the leaves.

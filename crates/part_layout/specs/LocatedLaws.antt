@@ -5,10 +5,10 @@ use mathlib.Core.List.{List, [], _∷_, _++_, append-assoc, append-nil}
 use Prim.Native.Nat.{ℕ, zero, suc, _+_, _-_, _*_, _^_, _≤_, _<_}
 use native.Mathlib.Omega.{arith}
 use lib.Pow.{pow-add}
-use native.Mathlib.Nat.{pow-succ', sub-zero, suc-sub-suc}
+use native.Mathlib.Nat.{pow-succ'}
 use lib.ListN.{length, take, drop, length-take, length-drop, length-append}
 use lib.Seq.{take-nil, drop-nil, drop-drop, length-take-le}
-use Rattle.base.specs.ListLaws.{every-take, every-drop}
+use Rattle.base.specs.ListLaws.{every-take, every-drop, joined-take, joined-drop}
 use Rattle.sizes.specs.Sizes.{candidates}
 use Rattle.sizes.specs.SizeLaws.{candidate-below}
 use Rattle.sizes.specs.Fit.{fits-count, fits-halves}
@@ -19,9 +19,10 @@ use Rattle.rules.specs.Compare.{countAfter}
 use Rattle.rules.specs.Rules.{rankOf, atRank, InReach}
 use Rattle.rules.specs.ChangeLaws.{count-rank, rank-rank, rank-itself, right-reach, right-count, left-count}
 use Rattle.rank_tree.specs.declared.Part.{Part}
+use Rattle.rank_tree.specs.Counts.{Holds}
+use Rattle.rank_tree.specs.RangeLaws.{balanced-perfect}
 use Rattle.rank_tree.specs.Update.{Within}
 use Rattle.layout.specs.Layout.{leafCounts, layLeaves}
-use Rattle.layout.specs.CountLaws.{Holds, balanced-levels}
 use Rattle.layout.specs.LayoutLaws.{leafCounts-total, length-leafCounts, length-layLeaves, layLeaves-node}
 use Rattle.part_layout.specs.ChangeList.{changeList}
 use Rattle.part_layout.specs.Located.{IsRange, Located}
@@ -52,19 +53,6 @@ delete-drop zero b (x ∷ xs) h = refl
 delete-drop (suc i) zero (x ∷ xs) h = absurd (omega arith)
 delete-drop (suc i) (suc b) (x ∷ xs) h = delete-drop i b xs (omega arith)
 
--- a list that is put together at i, parted before that
-part-take : (b i : ℕ) (xs ys : List ℕ) → b ≤ i → i ≤ length xs → take b (take i xs ++ ys) ≡ take b xs
-part-take zero i xs ys h l = refl
-part-take (suc b) zero xs ys h l = absurd (omega arith)
-part-take (suc b) (suc i) [] ys h l = absurd (omega arith)
-part-take (suc b) (suc i) (x ∷ xs) ys h l = ap (λ (l : List ℕ). x ∷ l) (part-take b i xs ys (omega arith) (omega arith))
-
-part-drop : (b i : ℕ) (xs ys : List ℕ) → b ≤ i → i ≤ length xs → drop b (take i xs ++ ys) ≡ take (i - b) (drop b xs) ++ ys
-part-drop zero i xs ys h l = rw (sub-zero i)
-part-drop (suc b) zero xs ys h l = absurd (omega arith)
-part-drop (suc b) (suc i) [] ys h l = absurd (omega arith)
-part-drop (suc b) (suc i) (x ∷ xs) ys h l = rw (suc-sub-suc i b) (part-drop b i xs ys (omega arith) (omega arith))
-
 -- the change falls into the left half, of b entries
 left-take : (change : Change) (e b : ℕ) (xs : List ℕ) → InReach change b
     → take (countAfter change b) (changeList change e xs) ≡ changeList change e (take b xs)
@@ -82,18 +70,18 @@ left-drop (Delete i) e (suc b) xs h = let d : suc b - 1 ≡ b = omega arith in r
 -- the change falls behind it
 right-take : (change : Change) (e b : ℕ) (xs : List ℕ) → b < rankOf change → InReach change (length xs) → take b (changeList change e xs) ≡ take b xs
 unfolding InReach rankOf changeList
-right-take (Insert i) e b xs l h = part-take b i xs (e ∷ drop i xs) (omega (arith, l)) h
-right-take (Delete i) e b xs l h = part-take b i xs (drop (suc i) xs) (omega (arith, l)) (omega (arith, h))
+right-take (Insert i) e b xs l h = joined-take i xs (e ∷ drop i xs) h b (omega (arith, l))
+right-take (Delete i) e b xs l h = joined-take i xs (drop (suc i) xs) (omega (arith, h)) b (omega (arith, l))
 
 right-drop : (change : Change) (e b : ℕ) (xs : List ℕ) → b < rankOf change → InReach change (length xs)
     → drop b (changeList change e xs) ≡ changeList (atRank change (rankOf change - b)) e (drop b xs)
 unfolding InReach rankOf atRank changeList
 right-drop (Insert i) e b xs l h =
     let d : b + (i - b) ≡ i = omega (arith, l) in
-    part-drop b i xs (e ∷ drop i xs) (omega (arith, l)) h ∙ rw (drop-drop (i - b) b xs, d)
+    joined-drop i xs (e ∷ drop i xs) h b (omega (arith, l)) ∙ rw (drop-drop (i - b) b xs, d)
 right-drop (Delete i) e b xs l h =
     let d : b + suc (i - b) ≡ suc i = omega (arith, l) in
-    part-drop b i xs (drop (suc i) xs) (omega (arith, l)) (omega (arith, h)) ∙ rw (drop-drop (suc (i - b)) b xs, d)
+    joined-drop i xs (drop (suc i) xs) (omega (arith, h)) b (omega (arith, l)) ∙ rw (drop-drop (suc (i - b)) b xs, d)
 
 -- ---- a range and its halves
 
@@ -117,7 +105,7 @@ module _ (M levels d n b : ℕ) (l r : Tree) (w : IsRange M (suc levels) d n (no
 pub range-length : (M levels d n : ℕ) (t : Tree) → IsRange M levels d n t → (s : ℕ) (xs : List ℕ) → length (layLeaves s (leafCounts n t) xs) ≡ s * 2 ^ levels
 range-length M levels d n t w s xs =
     length-layLeaves s (leafCounts n t) xs
-    ∙ rw (length-leafCounts levels n t (balanced-levels M levels d n t (w .balanced)))
+    ∙ rw (length-leafCounts levels n t (balanced-perfect M levels d n t (w .balanced)))
 
 no-levels : (M d n b : ℕ) (l r : Tree) → IsRange M 0 d n (node b l r) → ⊥
 unfolding Balanced

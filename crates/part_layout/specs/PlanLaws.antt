@@ -2,12 +2,13 @@
 use mathlib.Core.Path.{_≡_, refl, sym, _∙_, ap, subst}
 use mathlib.Core.Logic.{⊎-elim}
 use mathlib.Core.List.{List, _++_, append-assoc, append-nil}
-use Prim.Native.Nat.{ℕ, zero, suc, _+_, _-_, _*_, _^_, _≤_, max}
+use Prim.Native.Nat.{ℕ, _+_, _-_, _*_, _^_, _≤_, max}
 use native.Mathlib.Omega.{arith}
-use native.Mathlib.Nat.{mul-le-mul-right, zero-add, zero-mul, mul-zero, sub-zero, zero-sub, suc-sub-suc, sub-self}
+use native.Mathlib.Nat.{mul-le-mul-right, zero-add, zero-mul, mul-zero, sub-zero, sub-self}
 use lib.Pow.{pow-add}
 use lib.ListN.{length, take, drop, replicate, length-append, length-replicate, length-take, length-drop, take-append-drop, replicate-append-replicate}
 use lib.Seq.{take-at, take-append-seam, drop-append-seam, drop-append-add, drop-at, length-take-le}
+use Rattle.base.specs.ListLaws.{drop-replicate}
 use Rattle.sizes.specs.Sizes.{height, leafSlots, slots}
 use Rattle.sizes.specs.Fit.{fit}
 use Rattle.rules.specs.declared.Change.{Change}
@@ -16,13 +17,15 @@ use Rattle.rules.specs.Compare.{countAfter}
 use Rattle.rules.specs.Rules.{rankOf, atRank, InReach}
 use Rattle.rules.specs.ChangeLaws.{rank-itself}
 use Rattle.rank_tree.specs.declared.Part.{Part}
-use Rattle.rank_tree.specs.Counts.{shapeCounts}
+use Rattle.rank_tree.specs.Ranges.{Perfect}
+use Rattle.rank_tree.specs.Counts.{shapeCounts, Holds}
+use Rattle.rank_tree.specs.RangeLaws.{balanced-perfect}
+use Rattle.rank_tree.specs.ShapeCountLaws.{length-shapeCounts, shapeCounts-holds}
 use Rattle.rank_tree.specs.Update.{Confined}
 use Rattle.layout.specs.Leaf.{nonzero}
 use Rattle.layout.specs.Layout.{Capacity, leafCounts, layLeaves, padTo, laySlots}
 use Rattle.layout.specs.Sheet.{IsContents}
 use Rattle.layout.specs.Room.{Roomy}
-use Rattle.layout.specs.CountLaws.{Holds, HasLevels, balanced-levels, length-shapeCounts, shapeCounts-holds}
 use Rattle.layout.specs.LayoutLaws.{holds-leaves, leafCounts-total, leafCounts-fit, nonzero-layLeaves}
 use Rattle.layout.specs.SheetLaws.{leaves-layOut}
 use Rattle.part_layout.specs.ChangeList.{changeList}
@@ -33,11 +36,6 @@ use Rattle.part_layout.specs.LocatedLaws.{range-length, located}
 use Rattle.part_layout.specs.Plan.{partFrom, partLength, partCounts, zeroed, PartIn, Plan}
 
 -- ---- lists
-
-drop-zeros : (k n : ℕ) → drop k (replicate n 0) ≡ replicate {A = ℕ} (n - k) 0
-drop-zeros zero n = rw (sub-zero n)
-drop-zeros (suc k) zero = rw (zero-sub (suc k))
-drop-zeros (suc k) (suc n) = rw (suc-sub-suc n k) (drop-zeros k n)
 
 zeroed-none : (k : ℕ) (xs : List ℕ) → zeroed k k xs ≡ xs
 unfolding zeroed
@@ -103,30 +101,30 @@ put-whole old new room h l =
         let few : a ≤ length (old ++ Z) = simp (length-append, length-replicate) (omega arith) in
         let at : length old + (b - length old) ≡ b = omega arith in
         let tail : drop b (old ++ Z) ≡ replicate (room - length old - (b - length old)) 0
-        = ap (λ (k : ℕ). drop k (old ++ Z)) (sym at) ∙ drop-append-add old Z (b - length old) ∙ drop-zeros (b - length old) (room - length old) in
+        = ap (λ (k : ℕ). drop k (old ++ Z)) (sym at) ∙ drop-append-add old Z (b - length old) ∙ drop-replicate 0 (b - length old) (room - length old) in
         let sum : b - a + (room - length old - (b - length old)) ≡ room - a = omega arith in
         append-drop a b few ∙ rw (tail, replicate-append-replicate {A = ℕ} (b - a) (room - length old - (b - length old)) 0, sum)
 
 -- ---- the whole sheet as a part
 
-abbrev whole : ℕ → Part
-whole rank = record { range = 1; depth = 0; rank = rank }
+abbrev wholeSheet : ℕ → Part
+wholeSheet rank = record { range = 1; depth = 0; rank = rank }
 
 leaves-whole : (M : ℕ) → leavesOf M 0 ≡ 2 ^ height M
 unfolding leavesOf
 leaves-whole M = rw (sub-zero (height M))
 
-from-whole : (M rank : ℕ) → partFrom M (whole rank) ≡ 0
+from-whole : (M rank : ℕ) → partFrom M (wholeSheet rank) ≡ 0
 unfolding partFrom leavesBefore
 from-whole M rank = rw (zero-mul (leavesOf M 0)) (mul-zero (leafSlots M))
 
-length-whole : (M rank : ℕ) → partLength M (whole rank) ≡ slots M
+length-whole : (M rank : ℕ) → partLength M (wholeSheet rank) ≡ slots M
 unfolding partLength slots
 length-whole M rank = rw (leaves-whole M)
 
 -- ---- the counts of the part
 
-part-counts : (levels M n : ℕ) (counts : List ℕ) (t : Tree) (part : Part) → HasLevels levels t → leavesOf M (part .depth) ≡ 2 ^ levels
+part-counts : (levels M n : ℕ) (counts : List ℕ) (t : Tree) (part : Part) → Perfect levels t → leavesOf M (part .depth) ≡ 2 ^ levels
     → (part .range + 1) * 2 ^ levels ≤ length counts → Holds counts (part .range) n t → partCounts M part counts ≡ leafCounts n t
 unfolding partCounts
 part-counts levels M n counts t part has e room w = rw e (holds-leaves levels counts (part .range) n t has room w)
@@ -155,11 +153,11 @@ module _ (cap : Capacity) (roomy : Roomy cap) (list : List ℕ) (s s′ : Shape)
   counts-fit : 2 * 2 ^ height (s′ .size) ≤ cap .counts
   counts-fit = roomy .counts-fit N′ (s′ .size) few′ (shape′ .allowed)
 
-  has-levels : HasLevels (height (s′ .size)) (s′ .tree)
-  has-levels = balanced-levels (s′ .size) (height (s′ .size)) 0 N′ (s′ .tree) (shape′ .balanced)
+  is-perfect : Perfect (height (s′ .size)) (s′ .tree)
+  is-perfect = balanced-perfect (s′ .size) (height (s′ .size)) 0 N′ (s′ .tree) (shape′ .balanced)
 
   held : Holds (shapeCounts (cap .counts) N′ s′) 1 N′ (s′ .tree)
-  held = shapeCounts-holds (height (s′ .size)) (cap .counts) N′ s′ has-levels counts-fit
+  held = shapeCounts-holds (height (s′ .size)) (cap .counts) N′ s′ is-perfect counts-fit
 
   length-held : length (shapeCounts (cap .counts) N′ s′) ≡ cap .counts
   length-held = length-shapeCounts (cap .counts) N′ s′
@@ -184,12 +182,12 @@ module _ (cap : Capacity) (roomy : Roomy cap) (list : List ℕ) (s s′ : Shape)
 
   -- ---- the change is not confined to less than the whole sheet
 
-  whole-counts : partCounts (s′ .size) (whole (rankOf change)) (shapeCounts (cap .counts) N′ s′) ≡ leafCounts N′ (s′ .tree)
+  whole-counts : partCounts (s′ .size) (wholeSheet (rankOf change)) (shapeCounts (cap .counts) N′ s′) ≡ leafCounts N′ (s′ .tree)
   whole-counts =
-      part-counts (height (s′ .size)) (s′ .size) N′ (shapeCounts (cap .counts) N′ s′) (s′ .tree) (whole (rankOf change)) has-levels
+      part-counts (height (s′ .size)) (s′ .size) N′ (shapeCounts (cap .counts) N′ s′) (s′ .tree) (wholeSheet (rankOf change)) is-perfect
       (leaves-whole (s′ .size)) (rw length-held (omega (arith, counts-fit))) held
 
-  whole-in : (M : ℕ) → PartIn M (whole (rankOf change))
+  whole-in : (M : ℕ) → PartIn M (wholeSheet (rankOf change))
   whole-in M = record { depth-most = omega arith; range-least = omega arith; range-most = omega arith }
 
   whole-gathered : nonzero (take (slots (s .size)) (laySlots (cap .slots) list s)) ≡ list
@@ -205,7 +203,7 @@ module _ (cap : Capacity) (roomy : Roomy cap) (list : List ℕ) (s s′ : Shape)
       rw (← old-length, ← new-length)
       (put-whole old-leaves new-leaves (cap .slots) (omega (arith, old-length, old-fits)) (omega (arith, new-length, new-fits)))
 
-  whole-plan : Plan (cap .slots) (cap .counts) list s s′ change e (whole (rankOf change))
+  whole-plan : Plan (cap .slots) (cap .counts) list s s′ change e (wholeSheet (rankOf change))
   whole-plan = record {
     old-part = whole-in (s .size);
     new-part = whole-in (s′ .size);
@@ -311,7 +309,7 @@ module _ (cap : Capacity) (roomy : Roomy cap) (list : List ℕ) (s : Shape) (t�
   within-counts : partCounts M part counts′ ≡ leafCounts m′ (found .tree′)
   within-counts =
       part-counts (found .inner) M m′ counts′ (found .tree′) part
-      (balanced-levels M (found .inner) (part .depth) m′ (found .tree′) (found .new-range .balanced))
+      (balanced-perfect M (found .inner) (part .depth) m′ (found .tree′) (found .new-range .balanced))
       part-leaves
       (rw (length-held cap roomy list s s′ change e w reach shape′ few′) range-room)
       (found .held counts′ (held cap roomy list s s′ change e w reach shape′ few′))
@@ -387,7 +385,7 @@ pub plan : (cap : Capacity) (roomy : Roomy cap) (list : List ℕ) (s s′ : Shap
 unfolding Confined
 plan cap roomy list s s′ change e part w reach shape′ few′ confined =
     ⊎-elim
-    (λ (at : part ≡ whole (rankOf change)). rw at (whole-plan cap roomy list s s′ change e w reach shape′ few′))
+    (λ (at : part ≡ wholeSheet (rankOf change)). rw at (whole-plan cap roomy list s s′ change e w reach shape′ few′))
     (λ inside.
     let p : s′ ≡ record { size = s .size; tree = s′ .tree } = λ i. record { size = inside .0 i; tree = s′ .tree } in
     let shape = subst (λ (u : Shape). IsShape (countAfter change (length list)) u) p shape′ in

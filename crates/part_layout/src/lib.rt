@@ -16,7 +16,7 @@ ghost use Rattle.part_layout.specs.Plan.{partFrom, partLength};
 ghost use Rattle.part_layout.specs.Region.{leavesOf, leavesBefore};
 
 // How many leaves a range at this depth has.
-pub fn region_leaves(size: Size, depth: usize) -> usize
+fn region_leaves(size: Size, depth: usize) -> usize
     requires deepest { ⌜ depth ≤ height (size .m) ⌝ }
     requires most { ⌜ size .m < 2 ^ 32 ⌝ }
     ensures { λ r. ⌜ r ≡ leavesOf (size .m) depth ⌝ }
@@ -26,7 +26,7 @@ pub fn region_leaves(size: Size, depth: usize) -> usize
 }
 
 // How many leaves stand before the first leaf of the range with this number at this depth.
-pub fn region_before(size: Size, range: usize, depth: usize) -> usize
+fn region_before(size: Size, range: usize, depth: usize) -> usize
     requires deepest { ⌜ depth ≤ height (size .m) ⌝ }
     requires most { ⌜ size .m < 2 ^ 32 ⌝ }
     requires first { ⌜ 2 ^ depth ≤ range ⌝ }
@@ -38,7 +38,7 @@ pub fn region_before(size: Size, range: usize, depth: usize) -> usize
 }
 
 // Puts the entry e in at index i among the first n entries: those from i on move one place to the right, the last of them to index n.
-pub fn put_in(list: &mut [u64], n: usize, i: usize, e: u64)
+fn put_in(list: &mut [u64], n: usize, i: usize, e: u64)
     requires within { ⌜ i ≤ n ⌝ }
     requires room { ⌜ n < length (now list) ⌝ }
     ensures { λ _. ⌜ now (list .exit)
@@ -53,7 +53,7 @@ pub fn put_in(list: &mut [u64], n: usize, i: usize, e: u64)
 }
 
 // Takes the entry at index i out of the first n entries: those after it move one place to the left.
-pub fn take_out(list: &mut [u64], n: usize, i: usize)
+fn take_out(list: &mut [u64], n: usize, i: usize)
     requires within { ⌜ i < n ⌝ }
     requires room { ⌜ n ≤ length (now list) ⌝ }
     ensures { λ _. ⌜ now (list .exit)
@@ -67,7 +67,7 @@ pub fn take_out(list: &mut [u64], n: usize, i: usize)
 }
 
 // Carries the change out on the first n entries of the list: the entry e comes in, or the entry at the rank goes out.
-pub fn change_list(list: &mut [u64], n: usize, change: Change, e: u64)
+fn change_list(list: &mut [u64], n: usize, change: Change, e: u64)
     requires reach { ⌜ InReach change n ⌝ }
     requires room { ⌜ n < length (now list) ⌝ }
     ensures { λ _. ⌜ Changed change e n (now (list .entry)) (now (list .exit)) ⌝ }

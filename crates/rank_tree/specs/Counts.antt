@@ -1,8 +1,10 @@
 -- The numbers of entries of the ranges, by range number: range k has the halves 2 k and 2 k + 1. Definitions only: they assume nothing.
+use mathlib.Core.Path.{_≡_}
 use mathlib.Core.List.{List}
-use Prim.Native.Nat.{ℕ, zero, suc, _+_, _-_, _*_}
+use Prim.Native.Nat.{ℕ, zero, suc, _+_, _-_, _*_, _≤_}
 use lib.ListN.{getD, set, replicate}
 use Rattle.rules.specs.Tree.{Tree, leaf, node, Shape}
+use Rattle.rank_tree.specs.Ranges.{Below}
 
 -- The counts with those of the range k, which has n entries and this tree, written in.
 unfoldable pub writeTree : List ℕ → ℕ → ℕ → Tree → List ℕ
@@ -14,6 +16,15 @@ unfoldable pub readTree : ℕ → List ℕ → ℕ → Tree
 readTree zero counts k = leaf
 readTree (suc levels) counts k =
     node (getD counts (2 * k) 0) (readTree levels counts (2 * k)) (readTree levels counts (2 * k + 1))
+
+-- The counts are those of the range k, which has n entries and this tree.
+unfoldable pub Holds : List ℕ → ℕ → ℕ → Tree → Type 0
+Holds counts k n leaf = getD counts k 0 ≡ n
+Holds counts k n (node b l r) = (getD counts k 0 ≡ n) × Holds counts (2 * k) b l × Holds counts (2 * k + 1) (n - b) r
+
+-- Two lists of counts agree at the ranges down to `levels` below the range k.
+abbrev pub SameBelow : ℕ → ℕ → List ℕ → List ℕ → Type 0
+SameBelow levels k xs ys = (d j : ℕ) → d ≤ levels → Below k d j → getD xs j 0 ≡ getD ys j 0
 
 -- All counts of a shape with N entries: the size parameter at 0, the root at 1, and 0 at every number that is not in use.
 unfoldable pub shapeCounts : ℕ → ℕ → Shape → List ℕ

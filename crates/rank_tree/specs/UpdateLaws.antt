@@ -1,76 +1,39 @@
--- Laws of the whole change: what the size step and the walk end with, what they ask, and what they leave. Assumes nothing.
+-- Laws of the whole change: what the size step and the walk ask, and what they leave. Assumes nothing.
 use mathlib.Core.Path.{_≡_, refl, ap, sym, _∙_, subst}
 use mathlib.Core.Logic.{inl, inr}
 use mathlib.Core.List.{List, [], _∷_, _++_}
-use Prim.Native.Nat.{ℕ, zero, suc, _+_, _≤_, _<_}
+use Prim.Native.Nat.{ℕ, _+_, _<_}
 use native.Mathlib.Omega.{arith}
 use native.Mathlib.Numerals.{add-one}
 use lib.ListN.{length, set, take, replicate, replicate-append-replicate}
 use lib.Seq.{take-all, take-suc-set}
-use Rattle.base.specs.CaseLaws.{by-eq, by-lt}
-use Rattle.shares.specs.Program.{Program, Ends}
-use Rattle.shares.specs.ProgramLaws.{ends-bind}
 use Rattle.shares.specs.Tape.{Ran, ran, ended, runAt, afterRun}
 use Rattle.shares.specs.TapeLaws.{run-bind, run-ends}
-use Rattle.sizes.specs.Sizes.{Allowed, height, candidates}
+use Rattle.sizes.specs.Sizes.{Allowed, height}
 use Rattle.sizes.specs.Fit.{fit}
 use Rattle.rules.specs.declared.Change.{Change}
-use Rattle.rules.specs.declared.Change.the-variants.{Insert, Delete}
-use Rattle.rules.specs.declared.Comparison.{Comparison}
-use Rattle.rules.specs.declared.Comparison.the-variants.{Unchanged, Swapped}
 use Rattle.rules.specs.declared.Stepped.{Stepped}
 use Rattle.rules.specs.declared.Stepped.the-variants as stepped
-use Rattle.rules.specs.Tree.{Tree, leaf, node}
-use Rattle.rules.specs.Compare.{countAfter, compare}
-use Rattle.rules.specs.Rules.{join, rebuild, rebuildHalves, visit, walk, rankOf, SizeStep, kept, anew, sizeStep, sizeAfter, fresh, reshape, update}
+use Rattle.rules.specs.Tree.{Tree, Balanced}
+use Rattle.rules.specs.Compare.{countAfter}
+use Rattle.rules.specs.Rules.{rebuild, walk, rankOf, SizeStep, kept, anew, sizeStep, sizeAfter, fresh, reshape, update}
 use Rattle.rules.specs.Step.{steppedAs}
-use Rattle.rules.specs.ShapeLaws.{step-ends}
+use Rattle.rules.specs.ChangeLaws.{count-most}
+use Rattle.rules.specs.ShapeLaws.{step-ends, walk-ends}
 use Rattle.rank_tree.specs.declared.Rebuilt.{Rebuilt}
 use Rattle.rank_tree.specs.declared.Rebuilt.the-variants as rebuilt
 use Rattle.rank_tree.specs.declared.Walked.{Walked}
 use Rattle.rank_tree.specs.declared.Walked.the-variants as walked
 use Rattle.rank_tree.specs.declared.Updated.{Updated}
 use Rattle.rank_tree.specs.declared.Updated.the-variants as updated
-use Rattle.rank_tree.specs.Counts.{readTree, writeTree, shapeCounts}
+use Rattle.rank_tree.specs.Counts.{readTree, writeTree, shapeCounts, Holds}
 use Rattle.rank_tree.specs.Update.{shapeIn, Ready, Confined, UpdatedAs}
 use Rattle.rank_tree.specs.Rebuild.{CanRebuild, RebuiltAs}
-use Rattle.rank_tree.specs.Walk.{Holds, CanWalk, walkRun, WalkedAs}
-use Rattle.rank_tree.specs.CountLaws.{Perfect, balanced-perfect, write-over, holds-written}
-
--- ---- what the programs end with
-
--- All leaves of a range stay at their depth.
-join-perfect : (levels b : ℕ) (l r : Program Tree) → Ends (Perfect levels) l → Ends (Perfect levels) r
-    → Ends (Perfect (suc levels)) (join b l r)
-unfolding join Perfect Ends
-join-perfect levels b l r p q =
-    ends-bind (Perfect levels) (Perfect (suc levels)) l _ p (λ t h.
-    ends-bind (Perfect levels) (Perfect (suc levels)) r _ q (λ t′ h′. (h, h′)))
-
-rebuild-perfect : (M levels d n : ℕ) → Ends (Perfect levels) (rebuild M levels d n)
-unfolding rebuild Ends Perfect
-rebuild-perfect M zero d n = tt
-rebuild-perfect M (suc levels) d n = λ face h.
-    join-perfect levels _ _ _ (rebuild-perfect M levels (suc d) _) (rebuild-perfect M levels (suc d) _)
-
-visit-ends : (R : Tree → Type 0) (found : Comparison) (c b : ℕ) (again : Program Tree) (halves : ℕ → Program Tree) (onward : Program Tree)
-    → Ends R again → ((into : ℕ) → Ends R (halves into)) → Ends R onward → Ends R (visit found c b again halves onward)
-unfolding visit Ends
-visit-ends R Unchanged c b again halves onward p q r = r
-visit-ends R (Swapped out into) c b again halves onward p q r =
-    by-eq (Ends R) b out _ _ (λ e. p) (λ ne face h. by-eq (Ends R) face 0 _ _ (λ e. q into) (λ ne. r))
-
-walk-perfect : (M levels d : ℕ) (here : Change) (n : ℕ) (t : Tree) → Perfect levels t → Ends (Perfect levels) (walk M levels d here n t)
-unfolding walk Ends Perfect rebuildHalves
-walk-perfect M zero d here n t p = tt
-walk-perfect M (suc levels) d here n leaf p = absurd p
-walk-perfect M (suc levels) d here n (node b l r) p =
-    visit-ends (Perfect (suc levels)) (compare here n (candidates M d)) (candidates M d) b _ _ _
-    (rebuild-perfect M (suc levels) d (countAfter here n))
-    (λ into. join-perfect levels into _ _ (rebuild-perfect M levels (suc d) _) (rebuild-perfect M levels (suc d) _))
-    (by-lt (Ends (Perfect (suc levels))) b (rankOf here) _ _
-    (λ h. ends-bind (Perfect levels) (Perfect (suc levels)) _ _ (walk-perfect M levels (suc d) _ _ r (p .1)) (λ t q. (p .0, q)))
-    (λ h. ends-bind (Perfect levels) (Perfect (suc levels)) _ _ (walk-perfect M levels (suc d) _ _ l (p .0)) (λ t q. (q, p .1))))
+use Rattle.rank_tree.specs.Walk.{CanWalk, walkRun, WalkedAs}
+use Rattle.rank_tree.specs.Ranges.{Perfect}
+use Rattle.rank_tree.specs.RangeLaws.{balanced-perfect}
+use Rattle.rank_tree.specs.CountLaws.{write-over}
+use Rattle.rank_tree.specs.ShapeCountLaws.{shapeCounts-holds}
 
 -- ---- all counts zero
 
@@ -118,11 +81,6 @@ stepped-ended ended e = refl
 
 -- ---- what the change asks
 
-after-few : (change : Change) (N : ℕ) → countAfter change N ≤ suc N
-unfolding countAfter
-after-few (Insert i) N = omega arith
-after-few (Delete i) N = omega arith
-
 module _ {change : Change} {N M : ℕ} {counts : List ℕ} (ready : Ready change N M counts) where
   allowed : Allowed N M
   unfolding shapeIn
@@ -141,8 +99,8 @@ module _ {change : Change} {N M : ℕ} {counts : List ℕ} (ready : Ready change
     fits = fit (countAfter change N) M′ a;
     leaves = omega arith;
     inside = ready .new-room M′ a;
-    few = omega (arith, ready .few, after-few change N);
-    small = omega (arith, a .most, ready .few, after-few change N);
+    few = omega (arith, ready .few, count-most change N);
+    small = omega (arith, a .most, ready .few, count-most change N);
   }
 
   pub can-walk : Allowed (countAfter change N) M → CanWalk change N M counts
@@ -150,8 +108,8 @@ module _ {change : Change} {N M : ℕ} {counts : List ℕ} (ready : Ready change
   can-walk a = record {
     reach = ready .reach;
     holds =
-        subst (λ (c : List ℕ). Holds c 1 N (readTree (height M) counts 1)) (sym held)
-        (holds-written (height M) (readTree (height M) counts 1) (set (replicate (length counts) 0) 0 M) 1 N (omega arith) tree-perfect);
+        subst (λ (c : List ℕ). Holds c 1 N (readTree (height M) counts 1)) (sym (ready .held))
+        (shapeCounts-holds (height M) (length counts) N (shapeIn M counts) tree-perfect (ready .old-room));
     balanced = ready .shape .balanced;
     fits = fit N M allowed;
     can = can-fresh M a;
@@ -211,8 +169,10 @@ module _ {change : Change} {N M : ℕ} {counts : List ℕ} (ready : Ready change
       kept-updated result counts′ h =
           rw (update-run, step-kept, run-bind)
           (kept-as (walkRun change N M counts tape next) result counts′
-          (λ t i r. run-ends (Perfect (height M)) (walk M (height M) 0 change N (readTree (height M) counts 1)) tape next t i
-          (walk-perfect M (height M) 0 change N (readTree (height M) counts 1) tree-perfect) r)
+          (λ t i r. balanced-perfect M (height M) 0 (countAfter change N) t
+          (run-ends (Balanced M (height M) 0 (countAfter change N)) (walk M (height M) 0 change N (readTree (height M) counts 1)) tape next t i
+          (walk-ends M (height M) 0 change N (readTree (height M) counts 1) (kept-can .reach) (kept-can .fits) (kept-can .can .fits)
+          (kept-can .balanced)) r))
           h)
 
     module _ (M′ next : ℕ) (e : answer ≡ stepped.Anew M′ next) where

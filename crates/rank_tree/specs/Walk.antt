@@ -26,7 +26,7 @@ use Rattle.rank_tree.specs.declared.Stop.{Stop}
 use Rattle.rank_tree.specs.declared.Stop.the-variants as stop
 use Rattle.rank_tree.specs.declared.Walked.{Walked}
 use Rattle.rank_tree.specs.declared.Walked.the-variants as walked
-use Rattle.rank_tree.specs.Counts.{readTree, writeTree}
+use Rattle.rank_tree.specs.Counts.{readTree, writeTree, Holds}
 use Rattle.rank_tree.specs.Update.{Within}
 use Rattle.rank_tree.specs.Rebuild.{CanRebuild}
 
@@ -71,10 +71,6 @@ abbrev pub partOf : Range → Part
 partOf range = record { range = range .k; depth = range .depth; rank = rankOf (range .change) }
 
 -- ---- the walk
-
--- The counts hold the range k, of n entries, with this tree: to write it changes nothing.
-unfoldable pub Holds : List ℕ → ℕ → ℕ → Tree → Type 0
-Holds counts k n t = writeTree counts k n t ≡ counts
 
 -- The walk asks that the counts hold a tree of N entries with this size, and that the candidates fit before and after the change.
 pub record CanWalk (change : Change) (N M : ℕ) (counts : List ℕ) : Type 0 where
@@ -127,9 +123,9 @@ StoppedAs change N M counts₀ tape whole (stop.Enter range into next) counts =
 StoppedAs change N M counts₀ tape whole stop.Ended counts = whole ≡ ended
 
 -- The walk that stopped at this range, by what its rebuilding came to.
-unfoldable pub finished : Range → Rebuilt → Walked
-finished range (rebuilt.Done next) = walked.Done (partOf range) next
-finished range rebuilt.Ended = walked.Ended
+unfoldable pub walkAnswer : Range → Rebuilt → Walked
+walkAnswer range (rebuilt.Done next) = walked.Done (partOf range) next
+walkAnswer range rebuilt.Ended = walked.Ended
 
 -- The answer and the counts after the walk, by its run. Where the tape ended nothing is said of the counts.
 unfoldable pub WalkedAs : Change → ℕ → Tree → List ℕ → Ran Tree → Walked → List ℕ → Type 0

@@ -15,13 +15,12 @@ use Rattle.sizes.specs.Sizes.{height, candidates, IsCandidate}
 use Rattle.sizes.specs.SizeLaws.{candidate-below}
 use Rattle.sizes.specs.Fit.{fits-pos, fits-count, fits-halves}
 use Rattle.rules.specs.declared.Change.{Change}
-use Rattle.rules.specs.declared.Change.the-variants.{Insert, Delete}
 use Rattle.rules.specs.Tree.{Tree, leaf, node, Balanced}
 use Rattle.rules.specs.Compare.{countAfter, compare}
 use Rattle.rules.specs.Moves.{rankNow, Leaves, Moves}
 use Rattle.rules.specs.MoveLaws.{moves}
 use Rattle.rules.specs.Step.{Comparable}
-use Rattle.rules.specs.ChangeLaws.{count-rank, right-reach, right-count, left-reach, left-count}
+use Rattle.rules.specs.ChangeLaws.{count-least, right-reach, right-after, right-now, left-reach, left-count, left-now}
 use Rattle.rules.specs.Rules.{InReach, rebuild, rebuildHalves, walk, rankOf, atRank}
 use Rattle.rank_tree.specs.declared.Part.{Part}
 use Rattle.rank_tree.specs.declared.Range.{Range}
@@ -33,32 +32,14 @@ use Rattle.rank_tree.specs.declared.Stop.{Stop}
 use Rattle.rank_tree.specs.declared.Stop.the-variants as stop
 use Rattle.rank_tree.specs.declared.Walked.{Walked}
 use Rattle.rank_tree.specs.declared.Walked.the-variants as walked
-use Rattle.rank_tree.specs.Counts.{readTree, writeTree}
+use Rattle.rank_tree.specs.Counts.{readTree, writeTree, Holds}
 use Rattle.rank_tree.specs.Update.{Within}
 use Rattle.rank_tree.specs.Rebuild.{RebuiltAs}
-use Rattle.rank_tree.specs.Walk.{visitAt, halfOf, partOf, entriesAfter, Holds, CanWalk, walkRun, Walking, Stopped, StoppedAs, finished, WalkedAs}
-use Rattle.rank_tree.specs.CountLaws.{not-left, not-right, Perfect, balanced-perfect, holds-root, holds-set, holds-left, holds-right, write-left, write-right}
+use Rattle.rank_tree.specs.Walk.{visitAt, halfOf, partOf, entriesAfter, CanWalk, walkRun, Walking, Stopped, StoppedAs, walkAnswer, WalkedAs}
+use Rattle.rank_tree.specs.RangeLaws.{not-left, not-right}
+use Rattle.rank_tree.specs.CountLaws.{holds-count, holds-set, write-left, write-right}
 use Rattle.rank_tree.specs.RebuildLaws.{one-more, Bounds, bounds, halves-can}
 use Rattle.rank_tree.specs.VisitLaws.{visitRun, visit-run, pass-stays, enters-candidate}
-
--- ---- the halves of a range
-
--- The left half gains or loses the entry.
-pub left-now : (here : Change) (b : ℕ) → rankOf here ≤ b → rankNow here b ≡ countAfter here b
-unfolding rankOf rankNow countAfter
-left-now (Insert i) b h = ifLt-no b i b (suc b) h
-left-now (Delete i) b h = ifLt-no b i b (b - 1) h
-
--- The right half gains or loses the entry.
-pub right-now : (here : Change) (b : ℕ) → b < rankOf here → rankNow here b ≡ b
-unfolding rankOf rankNow
-right-now (Insert i) b h = ifLt-yes b i b (suc b) h
-right-now (Delete i) b h = ifLt-yes b i b (b - 1) h
-
-pub before-most : (here : Change) (n : ℕ) → n ≤ suc (countAfter here n)
-unfolding countAfter
-before-most (Insert i) n = omega arith
-before-most (Delete i) n = omega arith
 
 -- ---- the run at a range above the leaves
 
@@ -76,15 +57,15 @@ module _ (M levels d : ℕ) (here : Change) (n b : ℕ) (l r : Tree) (tape : Lis
   unfolding walk walkBelow
   walk-node = visit-run _ _ _ tape at (compare here n (candidates M d)) (candidates M d) b
 
-  pub below-left : rankOf here ≤ b → runAt (walkBelow M levels d here n b l r) tape at
+  pub left-run : rankOf here ≤ b → runAt (walkBelow M levels d here n b l r) tape at
       ≡ afterRun (runAt (walk M levels (d + 1) here b l) tape at) (λ l′ next. ran (node (countAfter here b) l′ r) next)
   unfolding walkBelow runAt
-  below-left h = rw (ifLt-no b (rankOf here) _ _ h, add-one) (run-bind _ _ tape at)
+  left-run h = rw (ifLt-no b (rankOf here) _ _ h, add-one) (run-bind _ _ tape at)
 
-  pub below-right : b < rankOf here → runAt (walkBelow M levels d here n b l r) tape at
+  pub right-run : b < rankOf here → runAt (walkBelow M levels d here n b l r) tape at
       ≡ afterRun (runAt (walk M levels (d + 1) (atRank here (rankOf here - b)) (n - b) r) tape at) (λ r′ next. ran (node b l r′) next)
   unfolding walkBelow runAt
-  below-right h = rw (ifLt-yes b (rankOf here) _ _ h, add-one) (run-bind _ _ tape at)
+  right-run h = rw (ifLt-yes b (rankOf here) _ _ h, add-one) (run-bind _ _ tape at)
 
 -- ---- the walk at a range
 
@@ -177,7 +158,7 @@ module _ {change : Change} {N M : ℕ} {counts₀ tape : List ℕ} {whole : Ran 
     some = fits-pos M levels d n (w .fits);
     before = fits-count M levels d n (w .fits);
     after = fits-count M levels d (countAfter here n) (w .can .fits);
-    most = omega (arith, w .can .few, before-most here n);
+    most = omega (arith, w .can .few, count-least here n);
   }
 
   moved : Moves here n (candidates M d) (compare here n (candidates M d))
@@ -186,24 +167,22 @@ module _ {change : Change} {N M : ℕ} {counts₀ tape : List ℕ} {whole : Ran 
   at-node : Node M levels d n (w .tree)
   at-node = take-apart M levels d n (w .tree) (w .balanced)
 
-  node-perfect : Perfect (suc levels) (node (at-node .b) (at-node .l) (at-node .r))
-  node-perfect = rw (at-node .is) at (balanced-perfect M (suc levels) d n (w .tree) (w .balanced))
-
   node-holds : Holds counts k n (node (at-node .b) (at-node .l) (at-node .r))
   node-holds = rw (at-node .is) at (w .holds)
 
   left-holds : Holds counts (2 * k) (at-node .b) (at-node .l)
-  left-holds = holds-left counts k n (at-node .b) (at-node .l) (at-node .r) (w .positive) levels node-perfect node-holds
+  unfolding Holds
+  left-holds = node-holds .1
 
   right-holds : Holds counts (2 * k + 1) (n - at-node .b) (at-node .r)
-  right-holds = holds-right counts k n (at-node .b) (at-node .l) (at-node .r) (w .positive) levels node-perfect node-holds
+  unfolding Holds
+  right-holds = node-holds .2
 
   pub node-bounds : Bounds M d k (length counts)
   node-bounds = bounds (w .can)
 
   balance : getD counts (2 * k) 0 ≡ at-node .b
-  balance =
-      holds-root (at-node .l) counts (2 * k) (at-node .b) (omega (arith, w .positive)) (omega (arith, node-bounds .below)) left-holds
+  balance = holds-count counts (2 * k) (at-node .b) (at-node .l) left-holds
 
   pub balance-below : getD counts (2 * k) 0 < n
   balance-below = rw balance (candidate-below n (candidates M d) (at-node .b) (comparable .before) (at-node .candidate))
@@ -266,7 +245,7 @@ module _ {change : Change} {N M : ℕ} {counts₀ tape : List ℕ} {whole : Ran 
             plug = λ t. w .plug (node (countAfter here (at-node .b)) t (at-node .r));
             run =
                 onward-run
-                ∙ rw (below-left M levels d here n (at-node .b) (at-node .l) (at-node .r) tape next h)
+                ∙ rw (left-run M levels d here n (at-node .b) (at-node .l) (at-node .r) tape next h)
                 (after-plug (runAt (walk M levels (d + 1) here (at-node .b) (at-node .l)) tape next) _ (w .plug));
             written = λ t.
                 w .written (node (countAfter here (at-node .b)) t (at-node .r))
@@ -291,19 +270,18 @@ module _ {change : Change} {N M : ℕ} {counts₀ tape : List ℕ} {whole : Ran 
           → Walking change N M counts₀ tape whole (set counts k (countAfter here n)) levels (d + 1) (2 * k + 1) (n - at-node .b)
           (atRank here (rankOf here - at-node .b)) next
       right-walking h =
-          let rest : countAfter here n - at-node .b ≡ countAfter (atRank here (rankOf here - at-node .b)) (n - at-node .b)
-          = right-count here n (at-node .b) h (w .reach) ∙ sym (count-rank here (rankOf here - at-node .b) (n - at-node .b)) in
+          let rest = right-after here n (at-node .b) h (w .reach) in
           record {
             tree = at-node .r;
             plug = λ t. w .plug (node (at-node .b) (at-node .l) t);
             run =
                 onward-run
-                ∙ rw (below-right M levels d here n (at-node .b) (at-node .l) (at-node .r) tape next h)
+                ∙ rw (right-run M levels d here n (at-node .b) (at-node .l) (at-node .r) tape next h)
                 (after-plug (runAt (walk M levels (d + 1) (atRank here (rankOf here - at-node .b)) (n - at-node .b) (at-node .r)) tape next) _ (w .plug));
             written = λ t.
                 w .written (node (at-node .b) (at-node .l) t)
                 ∙ write-right counts k n (at-node .b) (at-node .l) (at-node .r) (w .positive) (countAfter here n) t left-holds
-                ∙ rw rest;
+                ∙ rw (← rest);
             within = λ t part inside.
                 w .within (node (at-node .b) (at-node .l) t) part
                 (within-right k d here (w .tree) (at-node .b) (at-node .l) (at-node .r) (at-node .is) part t h inside);
@@ -312,7 +290,7 @@ module _ {change : Change} {N M : ℕ} {counts₀ tape : List ℕ} {whole : Ran 
             balanced = at-node .right;
             fits = rw add-one (fits-halves M levels d n (w .fits) (at-node .b) (at-node .candidate) .1);
             can =
-                rw (length-set counts k (countAfter here n), ← rest)
+                rw (length-set counts k (countAfter here n), rest)
                 (halves-can (w .can) (at-node .b) (rw (right-now here (at-node .b) h) at still) .1);
             positive = omega arith;
             kept = length-set counts k (countAfter here n) ∙ w .kept;
@@ -341,7 +319,7 @@ above-range range above =
 module _ {change : Change} {N M : ℕ} {counts₀ tape : List ℕ} {whole : Ran Tree} {counts : List ℕ} {at : ℕ} (range : Range)
     (w : Walking change N M counts₀ tape whole counts (range .levels) (range .depth) (range .k) (range .n) (range .change) at) where
   pub entries-most : range .n < 2 ^ 62
-  entries-most = omega (arith, w .can .few, before-most (range .change) (range .n))
+  entries-most = omega (arith, w .can .few, count-least (range .change) (range .n))
 
   pub stop-leaf : range .levels ≡ 0 → StoppedAs change N M counts₀ tape whole (stop.Leaf range at) counts
   unfolding StoppedAs walk runAt
@@ -383,18 +361,18 @@ module _ {change : Change} {N M : ℕ} {counts₀ tape : List ℕ} {whole : Ran 
 
 -- ---- the end of the walk
 
-finished-done : (rest : Ran Tree) {change : Change} {N M : ℕ} {counts₀ : List ℕ} {whole : Ran Tree} {range : Range} {counts : List ℕ}
+walked-done : (rest : Ran Tree) {change : Change} {N M : ℕ} {counts₀ : List ℕ} {whole : Ran Tree} {range : Range} {counts : List ℕ}
     (rebuilt : Rebuilt) (counts′ : List ℕ) → Stopped change N M counts₀ whole rest range counts
     → RebuiltAs rest rebuilt (range .k) (entriesAfter range) counts counts′
-    → WalkedAs change N (readTree (height M) counts₀ 1) counts₀ whole (finished range rebuilt) counts′
-unfolding RebuiltAs WalkedAs afterRun finished
-finished-done (ran t next) {range} rebuilt counts′ w h =
-    rw (w .run) (partOf range, ap (finished range) (h .0), h .1 ∙ sym (w .written t), w .within t)
-finished-done ended {range} rebuilt counts′ w h = rw (w .run) (ap (finished range) h)
+    → WalkedAs change N (readTree (height M) counts₀ 1) counts₀ whole (walkAnswer range rebuilt) counts′
+unfolding RebuiltAs WalkedAs afterRun walkAnswer
+walked-done (ran t next) {range} rebuilt counts′ w h =
+    rw (w .run) (partOf range, ap (walkAnswer range) (h .0), h .1 ∙ sym (w .written t), w .within t)
+walked-done ended {range} rebuilt counts′ w h = rw (w .run) (ap (walkAnswer range) h)
 
 pub stopped-most : {change : Change} {N M : ℕ} {counts₀ : List ℕ} {whole rest : Ran Tree} {range : Range} {counts : List ℕ}
     → Stopped change N M counts₀ whole rest range counts → range .n < 2 ^ 62
-stopped-most {range} w = omega (arith, w .can .few, before-most (range .change) (range .n))
+stopped-most {range} w = omega (arith, w .can .few, count-least (range .change) (range .n))
 
 module _ (change : Change) (N M : ℕ) (counts₀ tape : List ℕ) (whole : Ran Tree) (answer : Stop) (counts : List ℕ)
     (h : StoppedAs change N M counts₀ tape whole answer counts) where
@@ -403,10 +381,10 @@ module _ (change : Change) (N M : ℕ) (counts₀ tape : List ℕ) (whole : Ran 
     unfolding StoppedAs
     leaf-stopped = rw e at h
 
-    pub leaf-walked : (after : ℕ) (result : Walked) → after ≡ entriesAfter range → result ≡ finished range (rebuilt.Done next)
+    pub leaf-walked : (after : ℕ) (result : Walked) → after ≡ entriesAfter range → result ≡ walkAnswer range (rebuilt.Done next)
         → WalkedAs change N (readTree (height M) counts₀ 1) counts₀ whole result (set counts (range .k) after)
     unfolding RebuiltAs writeTree
-    leaf-walked after result ea er = rw (ea, er) (finished-done (ran leaf next) (rebuilt.Done next) _ leaf-stopped (refl, refl))
+    leaf-walked after result ea er = rw (ea, er) (walked-done (ran leaf next) (rebuilt.Done next) _ leaf-stopped (refl, refl))
 
   module _ (range : Range) (next : ℕ) (e : answer ≡ stop.Rebuild range next) where
     pub rebuild-stopped :
@@ -416,8 +394,8 @@ module _ (change : Change) (N M : ℕ) (counts₀ tape : List ℕ) (whole : Ran 
 
     pub rebuild-walked : (after : ℕ) (rebuilt : Rebuilt) (result : Walked) (counts′ : List ℕ) → after ≡ entriesAfter range
         → RebuiltAs (runAt (rebuild M (range .levels) (range .depth) after) tape next) rebuilt (range .k) after counts counts′
-        → result ≡ finished range rebuilt → WalkedAs change N (readTree (height M) counts₀ 1) counts₀ whole result counts′
-    rebuild-walked after rebuilt result counts′ ea r er = rw er (finished-done _ rebuilt counts′ rebuild-stopped (rw ea at r))
+        → result ≡ walkAnswer range rebuilt → WalkedAs change N (readTree (height M) counts₀ 1) counts₀ whole result counts′
+    rebuild-walked after rebuilt result counts′ ea r er = rw er (walked-done _ rebuilt counts′ rebuild-stopped (rw ea at r))
 
   module _ (range : Range) (into next : ℕ) (e : answer ≡ stop.Enter range into next) where
     pub enter-stopped :
@@ -430,8 +408,8 @@ module _ (change : Change) (N M : ℕ) (counts₀ tape : List ℕ) (whole : Ran 
 
     pub enter-walked : (after : ℕ) (rebuilt : Rebuilt) (result : Walked) (counts′ : List ℕ) → after ≡ entriesAfter range
         → RebuiltAs (runAt (rebuildHalves M (range .levels - 1) (range .depth) after into) tape next) rebuilt (range .k) after counts counts′
-        → result ≡ finished range rebuilt → WalkedAs change N (readTree (height M) counts₀ 1) counts₀ whole result counts′
-    enter-walked after rebuilt result counts′ ea r er = rw er (finished-done _ rebuilt counts′ (enter-stopped .0) (rw ea at r))
+        → result ≡ walkAnswer range rebuilt → WalkedAs change N (readTree (height M) counts₀ 1) counts₀ whole result counts′
+    enter-walked after rebuilt result counts′ ea r er = rw er (walked-done _ rebuilt counts′ (enter-stopped .0) (rw ea at r))
 
   pub ended-walked : (counts′ : List ℕ) → answer ≡ stop.Ended
       → WalkedAs change N (readTree (height M) counts₀ 1) counts₀ whole walked.Ended counts′

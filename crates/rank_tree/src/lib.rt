@@ -10,7 +10,7 @@ ghost use Rattle.rules.specs.Step.{Comparable};
 ghost use Rattle.rank_tree.specs.Counts.{readTree};
 ghost use Rattle.rank_tree.specs.Update.{shapeIn, Ready, UpdatedAs};
 ghost use Rattle.rank_tree.specs.Rebuild.{CanRebuild, RebuiltAs};
-ghost use Rattle.rank_tree.specs.Walk.{visitAt, entriesAfter, partOf, CanHalve, halfOf, CanWalk, walkRun, StoppedAs, finished, WalkedAs};
+ghost use Rattle.rank_tree.specs.Walk.{visitAt, entriesAfter, partOf, CanHalve, halfOf, CanWalk, walkRun, StoppedAs, walkAnswer, WalkedAs};
 use draw::Drawn;
 use rules::Change;
 use rules::Comparison;
@@ -38,7 +38,7 @@ pub enum Rebuilt {
 
 // Rebuilds the range k at `depth`, `levels` above the leaves, for n entries: its balance entry is drawn, then its left half and then its
 // right half are rebuilt in the same way.
-pub fn rebuild(
+fn rebuild(
     size: Size,
     levels: usize,
     depth: usize,
@@ -284,7 +284,7 @@ fn descend(
 
 // The walk that stopped at this range, by what its rebuilding came to.
 fn finish(range: Range, rebuilt: Rebuilt) -> Walked
-    ensures { λ r. ⌜ r ≡ finished range rebuilt ⌝ }
+    ensures { λ r. ⌜ r ≡ walkAnswer range rebuilt ⌝ }
 {
     match rebuilt {
         Rebuilt::Done(next) => Walked::Done {

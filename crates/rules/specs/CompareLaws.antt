@@ -257,14 +257,14 @@ module _ (change : Change) (a a′ c : ℕ) where
     λ s l k ne. by-other Q a′ c into s (m .into-from) (m .into-below) l k ne (λ f p. h _ _ (exchange-kept out into m f p) .1),
   )
 
-  leavesTest : ℕ → Bool
-  leavesTest r = not (isAmong (rankAfter change r) (ranksFrom a′ c))
+  isLeaving : ℕ → Bool
+  isLeaving r = not (isAmong (rankAfter change r) (ranksFrom a′ c))
 
-  entersTest : ℕ → Bool
-  entersTest e = not (someOf (λ r. isAmong (rankAfter change r) (e ∷ [])) (ranksFrom a c))
+  isEntering : ℕ → Bool
+  isEntering e = not (someOf (λ r. isAmong (rankAfter change r) (e ∷ [])) (ranksFrom a c))
 
-  kept-tests : (r s : ℕ) → Kept change a a′ c r s → (leavesTest r ≡ false) × (entersTest s ≡ false)
-  unfolding leavesTest entersTest ranksFrom
+  kept-tests : (r s : ℕ) → Kept change a a′ c r s → (isLeaving r ≡ false) × (isEntering s ≡ false)
+  unfolding isLeaving isEntering ranksFrom
   kept-tests r s k = (
     ap not (among-yes (rankAfter change r) a′ c s (k .after) (k .s-from) (k .s-below)),
     ap not
@@ -272,12 +272,12 @@ module _ (change : Change) (a a′ c : ℕ) where
         (among-yes (rankAfter change r) s 1 s (k .after) (omega arith) (omega arith))),
   )
 
-  leaves-yes : (r : ℕ) → ((s : ℕ) → a′ ≤ s → s < a′ + c → rankAfter change r ≢ some s) → leavesTest r ≡ true
-  unfolding leavesTest
+  leaves-yes : (r : ℕ) → ((s : ℕ) → a′ ≤ s → s < a′ + c → rankAfter change r ≢ some s) → isLeaving r ≡ true
+  unfolding isLeaving
   leaves-yes r h = ap not (among-no (rankAfter change r) a′ c h)
 
-  enters-yes : (s : ℕ) → ((r : ℕ) → a ≤ r → r < a + c → rankAfter change r ≢ some s) → entersTest s ≡ true
-  unfolding entersTest ranksFrom
+  enters-yes : (s : ℕ) → ((r : ℕ) → a ≤ r → r < a + c → rankAfter change r ≢ some s) → isEntering s ≡ true
+  unfolding isEntering ranksFrom
   enters-yes s h =
       ap not
       (some-no (λ r. isAmong (rankAfter change r) (s ∷ [])) a c
@@ -285,20 +285,20 @@ module _ (change : Change) (a a′ c : ℕ) where
 
   -- What leaves and what enters is what the match says.
   matched-found : (found : Comparison) → Matched change a a′ c found
-      → Found (keepIf leavesTest (ranksFrom a c)) (keepIf entersTest (ranksFrom a′ c)) found
+      → Found (keepIf isLeaving (ranksFrom a c)) (keepIf isEntering (ranksFrom a′ c)) found
   unfolding Found Leaves Enters Matched
   matched-found Unchanged m =
       let others = by-kept _ _ kept-tests Unchanged m in
-      (keep-none leavesTest a c (λ r l k. others .0 r l k (λ z. z)), keep-none entersTest a′ c (λ s l k. others .1 s l k (λ z. z)))
+      (keep-none isLeaving a c (λ r l k. others .0 r l k (λ z. z)), keep-none isEntering a′ c (λ s l k. others .1 s l k (λ z. z)))
   matched-found (Swapped out into) m =
       let others = by-kept _ _ kept-tests (Swapped out into) m in (
-        keep-one leavesTest a c out (m .out-from) (m .out-below) (leaves-yes out (m .leaves)) (others .0),
-        keep-one entersTest a′ c into (m .into-from) (m .into-below) (enters-yes into (m .enters)) (others .1),
+        keep-one isLeaving a c out (m .out-from) (m .out-below) (leaves-yes out (m .leaves)) (others .0),
+        keep-one isEntering a′ c into (m .into-from) (m .into-below) (enters-yes into (m .enters)) (others .1),
       )
 
 module _ (change : Change) (n c : ℕ) (pos : 0 < c) (before : c ≤ n) (after : c ≤ countAfter change n) where
   windows-found : Found (leaving change n c) (entering change n c) (swapOf change n c)
-  unfolding leaving entering window leavesTest entersTest
+  unfolding leaving entering window isLeaving isEntering
   windows-found = matched-found change _ _ c (swapOf change n c) (windows-matched change n c pos before after)
 
   -- The closed form is the comparison by identity.

@@ -1,9 +1,8 @@
 -- What the rules end with: sizes that are allowed, and trees whose balance entries are candidates. Assumes nothing.
-use mathlib.Core.Path.{_≡_, sym, _∙_}
 use mathlib.Core.Logic.{_≢_}
 use Prim.Native.Nat.{ℕ, zero, suc, _+_, _-_, _*_, _<_}
 use native.Mathlib.Omega.{arith}
-use Rattle.base.specs.CaseLaws.{by-eq, by-lt, by-le, ifLt-yes, ifLt-no}
+use Rattle.base.specs.CaseLaws.{by-eq, by-lt, by-le}
 use Rattle.shares.specs.Program.{Program, Ends}
 use Rattle.shares.specs.ProgramLaws.{ends-bind, ends-done}
 use Rattle.sizes.specs.Sizes.{Allowed, height, candidates, windowStart, IsCandidate, Fits}
@@ -18,7 +17,7 @@ use Rattle.rules.specs.Tree.{Tree, leaf, node, Balanced, Shape, IsShape}
 use Rattle.rules.specs.Rules.{join, rebuild, rebuildHalves, visit, rankOf, atRank, InReach, walk, SizeStep, kept, anew, grow, insertSize, shrink, deleteSize, sizeStep, sizeAfter, fresh, reshape, update}
 use Rattle.rules.specs.Moves.{rankNow, Leaves, Inside}
 use Rattle.rules.specs.MoveLaws.{moves}
-use Rattle.rules.specs.ChangeLaws.{count-rank, right-reach, right-count, left-reach, left-count, now-is}
+use Rattle.rules.specs.ChangeLaws.{right-reach, right-after, right-now, left-reach, left-count, left-now}
 
 -- ---- the size step
 
@@ -95,7 +94,7 @@ visit-ends R change n c (Swapped out into) b rebuilt halves below inside h k l =
     (λ e. h)
     (λ ne face i. by-eq (Ends R) face 0 _ _ (λ e. k into (inside .1)) (λ e. l ne))
 
-walk-ends : (M levels d : ℕ) (change : Change) (n : ℕ) (t : Tree) → InReach change n → Fits M levels d n → Fits M levels d (countAfter change n)
+pub walk-ends : (M levels d : ℕ) (change : Change) (n : ℕ) (t : Tree) → InReach change n → Fits M levels d n → Fits M levels d (countAfter change n)
     → Balanced M levels d n t → Ends (Balanced M levels d (countAfter change n)) (walk M levels d change n t)
 unfolding walk Balanced Ends
 walk-ends M zero d change n t reach old new w = tt
@@ -114,16 +113,15 @@ walk-ends M (suc levels) d change n (node b l r) reach old new w =
     let halves′ = fits-halves M levels d (countAfter change n) new (rankNow change b) candidate in
     by-lt (Ends (Balanced M (suc levels) d (countAfter change n))) b (rankOf change) _ _
     (λ h.
-    let now : rankNow change b ≡ b = now-is change b ∙ ifLt-yes b (rankOf change) _ _ h in
-    let count : countAfter (atRank change (rankOf change - b)) (n - b) ≡ countAfter change n - b
-    = count-rank change (rankOf change - b) (n - b) ∙ sym (right-count change n b h reach) in
+    let now = right-now change b h in
+    let count = right-after change n b h reach in
     ends-bind (Balanced M levels (suc d) (countAfter change n - b)) _ (walk M levels (suc d) (atRank change (rankOf change - b)) (n - b) r) _
     (rw count at
     (walk-ends M levels (suc d) (atRank change (rankOf change - b)) (n - b) r (right-reach change n b h reach) (halves .1)
     (rw count (rw now at (halves′ .1))) (w .2)))
     (λ r′ right. (rw now at candidate, w .1, right)))
     (λ h.
-    let now : rankNow change b ≡ countAfter change b = now-is change b ∙ ifLt-no b (rankOf change) _ _ h in
+    let now = left-now change b h in
     let here = left-reach change b h (m .stays b (w .0) stays) in
     ends-bind (Balanced M levels (suc d) (countAfter change b)) _ (walk M levels (suc d) change b l) _
     (walk-ends M levels (suc d) change b l here (halves .0) (rw now at (halves′ .0)) (w .1))

@@ -30,21 +30,21 @@ right-near n c b h w = record { upper = omega (arith, w .from); lower = omega (a
 -- Bounds of n, the number of entries of a range at depth d, where N entries have the size M, which has g digits. P is 2 ^ d. Divided by
 -- 4 * g * P they are N / P - e ≤ n ≤ M / P + e with e = d * M / (4 * g * P) + 2 - 2 / P. A half of a range meets the bounds at d + 1,
 -- since c * 4 * g * P < M + 4 * g * P.
-record Bounds (g M N d P n : ℕ) : Type 0 where
+record EntryBounds (g M N d P n : ℕ) : Type 0 where
   upper : 4 * g * P * n + 8 * g ≤ (4 * g + d) * M + 8 * g * P
   lower : 4 * g * N + 8 * g ≤ 4 * g * P * n + d * M + 8 * g * P
 
-bounds-root : (g M N : ℕ) → N ≤ M → Bounds g M N 0 1 N
+bounds-root : (g M N : ℕ) → N ≤ M → EntryBounds g M N 0 1 N
 bounds-root g M N h = record { upper = omega (arith, mul-le-mul-left g h); lower = omega arith }
 
-bounds-half : (g M N d P n c m : ℕ) → 4 * g * P * c < M + 4 * g * P → Near n c m → Bounds g M N d P n
-    → Bounds g M N (suc d) (2 * P) m
+bounds-half : (g M N d P n c m : ℕ) → 4 * g * P * c < M + 4 * g * P → Near n c m → EntryBounds g M N d P n
+    → EntryBounds g M N (suc d) (2 * P) m
 bounds-half g M N d P n c m few near b = record {
   upper = omega (arith, b .upper, mul-le-mul-left (g * P) (near .upper));
   lower = omega (arith, b .lower, mul-le-mul-left (g * P) (near .lower));
 }
 
-module _ (g M N d P n : ℕ) (seven : 7 ≤ g) (deep : d + 2 ≤ g) (b : Bounds g M N d P n) where
+module _ (g M N d P n : ℕ) (seven : 7 ≤ g) (deep : d + 2 ≤ g) (b : EntryBounds g M N d P n) where
   bounds-least : (c : ℕ) → M < 2 * N → g * P ≤ M → 4 * g * P * c < M + 4 * g * P → c ≤ n
   bounds-least c half room few =
       ⊎-elim
@@ -73,7 +73,7 @@ module _ (g M N d P n : ℕ) (seven : 7 ≤ g) (deep : d + 2 ≤ g) (b : Bounds 
 
 module _ (N M : ℕ) (large : 64 < M) (half : M < 2 * N) where
   abbrev InBounds : ℕ → ℕ → Type 0
-  InBounds d n = Bounds (digits M) M N d (2 ^ d) n
+  InBounds d n = EntryBounds (digits M) M N d (2 ^ d) n
 
   range-least : (d n c : ℕ) → d ≤ height M → InBounds d n → 4 * digits M * 2 ^ d * c < M + 4 * digits M * 2 ^ d → c ≤ n
   range-least d n c h b few =

@@ -1,31 +1,30 @@
--- `counts_are_zero` meets its contract. The loop's invariant: the test comes to that of the numbers from k on. Assumes nothing.
+-- `counts_are_zero` meets its contract. The loop's invariant: the test comes to that of the joined numbers and of those from k on.
+-- Assumes nothing.
 use mathlib.Core.Path.{_≡_, refl, sym, _∙_}
+use mathlib.Core.Bool.{_&&_}
 use Prim.Native.Nat.{_-_}
+use lib.Dec.{eqb}
 use lib.ListN.{length, drop}
 use borrow.Author.Needs.{needs}
 use Rattle.layout.specs.Check.{allZero}
-use Rattle.layout.specs.ZeroLaws.{zero-end, zero-next, zero-stop}
+use Rattle.layout.specs.ZeroLaws.{zero-joined, zero-joined-all}
 use Rattle.layout.proofs.counts_are_zero.Statement.{statement}
 use Rattle.layout.proofs.counts_are_zero.Tie as tie
 
 abbrev Inv-loop : tie.InvT-loop
-Inv-loop counts from k₀ k = allZero (drop from counts) ≡ allZero (drop k counts)
+Inv-loop counts from joined₀ k₀ joined k = allZero (drop from counts) ≡ (eqb joined 0 && allZero (drop k counts))
 
 abbrev μ-loop : tie.MeasureT-loop
-μ-loop counts from k₀ k = length counts - k
+μ-loop counts from joined₀ k₀ joined k = length counts - k
 
 loop-holds : tie.Need-loop-holds Inv-loop μ-loop
 loop-holds c = refl
 
-mul-if1 : tie.Need-mul-if1 Inv-loop μ-loop
-mul-if1 c = search needs
+mul-joined : tie.Need-mul-joined Inv-loop μ-loop
+mul-joined c = search needs
 
-shared-slice-read-if1 : tie.Need-shared-slice-read-if1 Inv-loop μ-loop
-shared-slice-read-if1 c = search needs
-
-returns : tie.Need-returns Inv-loop μ-loop
-returns c =
-    sym (c .before .before .before .loop .inv ∙ zero-stop _ _ (c .before .before .loop-test .taken) (c .if1 .taken))
+shared-slice-read-joined : tie.Need-shared-slice-read-joined Inv-loop μ-loop
+shared-slice-read-joined c = search needs
 
 add-k : tie.Need-add-k Inv-loop μ-loop
 add-k c = search needs
@@ -35,10 +34,13 @@ loop-less c = search needs
 
 loop-again : tie.Need-loop-again Inv-loop μ-loop
 loop-again c =
-    c .before .before .before .loop .inv ∙ zero-next _ _ (c .before .before .loop-test .taken) (c .if1 .left)
+    let l = c .before .before in
+    l .loop .inv ∙ zero-joined (l .before .args .counts .now) (l .loop .k) (l .loop .joined) (c .before .loop-test .taken)
 
-returns-2 : tie.Need-returns-2 Inv-loop μ-loop
-returns-2 c = sym (c .before .loop .inv ∙ zero-end _ _ (c .loop-test .left))
+returns : tie.Need-returns Inv-loop μ-loop
+returns c =
+    let l = c .before in
+    sym (l .loop .inv ∙ zero-joined-all (l .before .args .counts .now) (l .loop .k) (l .loop .joined) (c .loop-test .left))
 
 pub counts-are-zero-spec : {M : Type 1} → statement M
 counts-are-zero-spec =
@@ -47,10 +49,9 @@ counts-are-zero-spec =
     Inv-loop
     μ-loop
     loop-holds
-    mul-if1
-    shared-slice-read-if1
-    returns
+    mul-joined
+    shared-slice-read-joined
     add-k
     loop-less
     loop-again
-    returns-2)
+    returns)

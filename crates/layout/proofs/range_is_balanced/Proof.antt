@@ -8,22 +8,17 @@ use Rattle.layout.proofs.range_is_balanced.Statement.{statement}
 use Rattle.layout.proofs.range_is_balanced.Tie as tie
 
 values : (c : tie.After-window-start)
-    → let a = c .before .before .before .before .before .args in
-    RangeRead (a .counts .now) (a .m) (a .d) (a .k) (c .before .before .count-at .result) (c .before .count-at2 .result)
-    (c .before .before .before .candidates .result) (c .window-start .result)
+    → let a = c .before .before .before .before .args in
+    RangeRead (a .counts .now) (a .k) (c .before .before .count-at .result) (c .before .count-at2 .result) (a .c) (c .window-start .result)
 values c = record {
   n-is = c .before .before .count-at .ensures;
   b-is = c .before .count-at2 .ensures;
-  c-is = c .before .before .before .candidates .ensures;
   start-is = c .window-start .ensures;
 }
 
 room : (c : tie.After-window-start)
-    → c .window-start .result + c .before .before .before .candidates .result ≤ c .before .before .count-at .result
-room c = range-room (values c) (c .before .before .before .before .before .pre)
-
-candidates-requires : tie.Need-candidates-requires
-candidates-requires c κs = search needs
+    → c .window-start .result + c .before .before .before .before .args .c ≤ c .before .before .count-at .result
+room c = range-room (values c) (c .before .before .before .before .pre)
 
 count-at-requires : tie.Need-count-at-requires
 count-at-requires c κs = search needs
@@ -66,7 +61,6 @@ pub range-is-balanced-spec : {M : Type 1} → statement M
 range-is-balanced-spec =
     tie.close
     (tie.spec
-    candidates-requires
     count-at-requires
     mul-count-at
     count-at-requires-2

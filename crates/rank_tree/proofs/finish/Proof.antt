@@ -1,6 +1,6 @@
 -- `rank_tree::finish` meets its contract. Assumes nothing.
 use mathlib.Core.Path.{refl}
-use Rattle.rank_tree.specs.Walk.{finished}
+use Rattle.rank_tree.specs.Walk.{walkAnswer}
 use borrow.Author.Needs.{needs}
 use Rattle.rank_tree.proofs.finish.Statement.{statement}
 use Rattle.rank_tree.proofs.finish.Tie as tie
@@ -15,11 +15,11 @@ enum-told : tie.Need-enum-told
 enum-told c = search needs
 
 returns : tie.Need-returns
-unfolding finished
+unfolding walkAnswer
 returns c = rw (c .part .ensures, c .before .before .rebuilt .given .1) refl
 
 returns-2 : tie.Need-returns-2
-unfolding finished
+unfolding walkAnswer
 returns-2 c = rw (c .enum-told .given .1) refl
 
 pub finish-spec : {M : Type 1} → statement M

@@ -1,0 +1,386 @@
+//! The same calls once more in safe Rust, written for speed alone: no tables
+//! worked out beforehand, no comparison of candidates one by one, a leaf looked
+//! at in one pass. It keeps `tests/reference`, which is written to be read
+//! beside the paper, from being an easy mark.
+
+use reference::layout::{COUNTS, SLOTS};
+use reference::sizes::MAX_ENTRIES;
+
+type Counts = [u16; COUNTS];
+
+const TAPE_ENDS: u64 = 7;
+
+/// What the size parameter gives.
+#[derive(Clone, Copy)]
+struct Size {
+    m: usize,
+    height: usize,
+    leaf: usize,
+    /// Candidates of the root: below, half of those above, rounded up.
+    candidates: usize,
+}
+
+impl Size {
+    fn new(m: usize) -> Size {
+        if m <= 64 {
+            return Size { m, height: 0, leaf: m, candidates: 0 };
+        }
+        let g = (usize::BITS - (m - 1).leading_zeros()) as usize;
+        Size {
+            m,
+            height: (m / g).ilog2() as usize,
+            leaf: 3 * g,
+            candidates: m.div_ceil(4 * g),
+        }
+    }
+
+    fn leaves(&self) -> usize {
+        1 << self.height
+    }
+}
+
+fn window(n: usize, c: usize) -> usize {
+    n.div_ceil(2) - c.div_ceil(2)
+}
+
+/// The slots ⌊k s / n⌋ one after the other, with one division.
+struct Slots {
+    n: usize,
+    slot: usize,
+    rest: usize,
+    step: usize,
+    step_rest: usize,
+}
+
+impl Slots {
+    fn new(s: usize, n: usize) -> Slots {
+        let (slot, d) = if n == 0 { (s, 1) } else { (0, n as u32) };
+        Slots {
+            n,
+            slot,
+            rest: 0,
+            step: (s as u32 / d) as usize,
+            step_rest: (s as u32 % d) as usize,
+        }
+    }
+
+    fn advance(&mut self) {
+        self.slot += self.step;
+        self.rest += self.step_rest;
+        if self.rest >= self.n {
+            self.rest -= self.n;
+            self.slot += 1;
+        }
+    }
+}
+
+fn leaf_is_spread(leaf: &[u64], n: usize) -> bool {
+    let mut next = Slots::new(leaf.len(), n);
+    for (i, &held) in leaf.iter().enumerate() {
+        if i == next.slot {
+            if held == 0 {
+                return false;
+            }
+            next.advance();
+        } else if held != 0 {
+            return false;
+        }
+    }
+    true
+}
+
+fn tree_is_balanced(counts: &Counts, c: usize, levels: usize, k: usize) -> bool {
+    if levels == 0 {
+        return true;
+    }
+    let (n, b, right) = (counts[k] as usize, counts[2 * k] as usize, counts[2 * k + 1] as usize);
+    if c > n || b + right != n {
+        return false;
+    }
+    let start = window(n, c);
+    let below = c - c / 2;
+    b >= start && b < start + c && tree_is_balanced(counts, below, levels - 1, 2 * k) && tree_is_balanced(counts, below, levels - 1, 2 * k + 1)
+}
+
+/// The size and the length of the sheet in the store, or the cause 1 or 2.
+fn open(slots: &[u64], counts: &[u16]) -> Result<(Size, usize), u64> {
+    if slots.len() != SLOTS {
+        return Err(1);
+    }
+    let counts: &Counts = counts.try_into().map_err(|_| 1u64)?;
+    let (m, n) = (counts[0] as usize, counts[1] as usize);
+    if n > MAX_ENTRIES || m < n || m > (2 * n).saturating_sub(1) {
+        return Err(2);
+    }
+    let size = Size::new(m);
+    let leaves = size.leaves();
+    if !tree_is_balanced(counts, size.candidates, size.height, 1) || counts[2 * leaves..].iter().fold(0, |any, &c| any | c) != 0 {
+        return Err(2);
+    }
+    let (used, unused) = slots.split_at(size.leaf * leaves);
+    let spread = m == 0 || used.chunks_exact(size.leaf).zip(&counts[leaves..]).all(|(leaf, &n)| leaf_is_spread(leaf, n as usize));
+    if !spread || unused.iter().fold(0, |any, &slot| any | slot) != 0 {
+        return Err(2);
+    }
+    Ok((size, n))
+}
+
+#[derive(Clone, Copy)]
+enum Change {
+    Insert(usize),
+    Delete(usize),
+}
+
+impl Change {
+    fn rank(self) -> usize {
+        match self {
+            Change::Insert(rank) | Change::Delete(rank) => rank,
+        }
+    }
+
+    fn at(self, rank: usize) -> Change {
+        match self {
+            Change::Insert(_) => Change::Insert(rank),
+            Change::Delete(_) => Change::Delete(rank),
+        }
+    }
+
+    fn after(self, n: usize) -> usize {
+        match self {
+            Change::Insert(_) => n + 1,
+            Change::Delete(_) => n - 1,
+        }
+    }
+}
+
+struct Tape<'a> {
+    words: &'a [u32],
+    place: usize,
+}
+
+impl Tape<'_> {
+    fn draw(&mut self, m: usize) -> Option<usize> {
+        if m == 1 {
+            return Some(0);
+        }
+        let m = u32::try_from(m).ok().filter(|&m| m > 0)?;
+        // The words from 2^32 less this on are passed over.
+        let over = m.wrapping_neg() % m;
+        while let Some(&word) = self.words.get(self.place) {
+            self.place += 1;
+            if word <= u32::MAX - over {
+                return Some((word % m) as usize);
+            }
+        }
+        None
+    }
+}
+
+/// The leaving and the entering candidate where an entry comes in at rank i,
+/// ranks before and after.
+fn swap(i: usize, before: usize, after: usize, c: usize) -> Option<(usize, usize)> {
+    let end = before + c;
+    if after == before {
+        (i < end).then(|| (end - 1, i.max(before)))
+    } else {
+        (before < i).then(|| (before, i.min(end)))
+    }
+}
+
+fn compare(change: Change, n: usize, c: usize) -> Option<(usize, usize)> {
+    match change {
+        Change::Insert(i) => swap(i, window(n, c), window(n + 1, c), c),
+        Change::Delete(i) => swap(i, window(n - 1, c), window(n, c), c).map(|(out, into)| (into, out)),
+    }
+}
+
+fn rebuild(counts: &mut Counts, c: usize, levels: usize, k: usize, n: usize, tape: &mut Tape) -> Option<()> {
+    counts[k] = n as u16;
+    if levels == 0 {
+        return Some(());
+    }
+    let b = window(n, c) + tape.draw(c)?;
+    rebuild_halves(counts, c, levels, k, n, b, tape)
+}
+
+fn rebuild_halves(counts: &mut Counts, c: usize, levels: usize, k: usize, n: usize, b: usize, tape: &mut Tape) -> Option<()> {
+    counts[k] = n as u16;
+    let below = c - c / 2;
+    rebuild(counts, below, levels - 1, 2 * k, b, tape)?;
+    rebuild(counts, below, levels - 1, 2 * k + 1, n - b, tape)
+}
+
+/// The range that the change is confined to, and the change as it sees it.
+struct Part {
+    k: usize,
+    depth: usize,
+    change: Change,
+}
+
+fn walk(counts: &mut Counts, size: Size, n: usize, change: Change, tape: &mut Tape) -> Option<Part> {
+    let (mut k, mut depth, mut n, mut change, mut c) = (1, 0, n, change, size.candidates);
+    while depth < size.height {
+        let b = counts[2 * k] as usize;
+        if let Some((out, into)) = compare(change, n, c) {
+            let levels = size.height - depth;
+            if b == out {
+                rebuild(counts, c, levels, k, change.after(n), tape)?;
+                return Some(Part { k, depth, change });
+            }
+            if tape.draw(c)? == 0 {
+                rebuild_halves(counts, c, levels, k, change.after(n), into, tape)?;
+                return Some(Part { k, depth, change });
+            }
+        }
+        counts[k] = change.after(n) as u16;
+        let rank = change.rank();
+        (k, n, change) = if b < rank { (2 * k + 1, n - b, change.at(rank - b)) } else { (2 * k, b, change) };
+        depth += 1;
+        c -= c / 2;
+    }
+    counts[k] = change.after(n) as u16;
+    Some(Part { k, depth, change })
+}
+
+/// The size parameter, where it is set anew.
+fn size_step(change: Change, n: usize, m: usize, tape: &mut Tape) -> Option<Option<usize>> {
+    match change {
+        Change::Insert(_) if n == 0 => Some(Some(1)),
+        Change::Insert(_) => {
+            if m == n || tape.draw(n + 1)? == 0 {
+                return Some(Some(2 * n + tape.draw(2)?));
+            }
+            Some(None)
+        }
+        Change::Delete(_) if n == 1 => Some(Some(0)),
+        Change::Delete(_) if m < 2 * n - 2 => Some(None),
+        Change::Delete(_) => {
+            let f = tape.draw(2 * n - 2)?;
+            Some(Some(if f < n - 2 { n + f } else { n - 1 }))
+        }
+    }
+}
+
+/// The slots and the leaves under a range.
+fn under(size: Size, part: &Part) -> (std::ops::Range<usize>, std::ops::Range<usize>) {
+    let levels = size.height - part.depth;
+    let first = part.k << levels;
+    let leaves = first..first + (1 << levels);
+    let from = (first - size.leaves()) * size.leaf;
+    (from..from + (size.leaf << levels), leaves)
+}
+
+fn lay_part(slots: &mut [u64], old: Size, new: Size, part: &Part, entry: u64, counts: &Counts) {
+    let mut list = [0; MAX_ENTRIES + 1];
+    let mut n = 0;
+    let (from, _) = under(old, part);
+    for &held in &slots[from.clone()] {
+        if held != 0 {
+            list[n] = held;
+            n += 1;
+        }
+    }
+    let rank = part.change.rank();
+    match part.change {
+        Change::Insert(_) => {
+            list.copy_within(rank..n, rank + 1);
+            list[rank] = entry;
+        }
+        Change::Delete(_) => list.copy_within(rank + 1..n, rank),
+    }
+    slots[from].fill(0);
+    let (to, leaves) = under(new, part);
+    let mut entries = list.iter();
+    if new.leaf == 0 {
+        return;
+    }
+    for (leaf, &n) in slots[to].chunks_exact_mut(new.leaf).zip(&counts[leaves]) {
+        let mut next = Slots::new(leaf.len(), n as usize);
+        for &entry in entries.by_ref().take(n as usize) {
+            leaf[next.slot] = entry;
+            next.advance();
+        }
+    }
+}
+
+fn change(slots: &mut [u64], counts: &mut [u16], old: Size, n: usize, change: Change, entry: u64, tape: &[u32]) -> [u64; 3] {
+    let counts: &mut Counts = counts.try_into().expect("the lengths are right");
+    let mut tape = Tape { words: tape, place: 0 };
+    let mut work = *counts;
+    let Some((new, part)) = plan(&mut work, old, n, change, &mut tape) else {
+        return [TAPE_ENDS, 0, 0];
+    };
+    lay_part(slots, old, new, &part, entry, &work);
+    *counts = work;
+    [0, change.after(n) as u64, tape.place as u64]
+}
+
+fn plan(work: &mut Counts, old: Size, n: usize, change: Change, tape: &mut Tape) -> Option<(Size, Part)> {
+    match size_step(change, n, old.m, tape)? {
+        None => Some((old, walk(work, old, n, change, tape)?)),
+        Some(m) => {
+            let new = Size::new(m);
+            *work = [0; COUNTS];
+            work[0] = m as u16;
+            rebuild(work, new.candidates, new.height, 1, change.after(n), tape)?;
+            Some((new, Part { k: 1, depth: 0, change }))
+        }
+    }
+}
+
+pub fn check(slots: &[u64], counts: &[u16]) -> [u64; 3] {
+    match open(slots, counts) {
+        Ok((_, n)) => [0, n as u64, 0],
+        Err(cause) => [cause, 0, 0],
+    }
+}
+
+pub fn place(slots: &[u64], counts: &[u16], rank: usize) -> [u64; 3] {
+    match open(slots, counts) {
+        Ok((_, n)) if rank >= n => [4, 0, 0],
+        Ok(_) => [0, rank as u64 + 1, rank as u64 + 1],
+        Err(cause) => [cause, 0, 0],
+    }
+}
+
+pub fn read(slots: &[u64], counts: &[u16], first: usize, last: usize, output: &mut [u64]) -> [u64; 3] {
+    let size = match open(slots, counts) {
+        Ok((_, n)) if last >= n || first > last => return [4, 0, 0],
+        Ok((size, _)) => size,
+        Err(cause) => return [cause, 0, 0],
+    };
+    let count = last - first + 1;
+    let Some(output) = output.get_mut(..count) else {
+        return [6, 0, 0];
+    };
+    // The leaf that holds the first of them, and how many stand before it there.
+    let leaves = size.leaves();
+    let (mut leaf, mut before) = (0, first);
+    while before >= counts[leaves + leaf] as usize {
+        before -= counts[leaves + leaf] as usize;
+        leaf += 1;
+    }
+    let held = slots[leaf * size.leaf..].iter().filter(|&&slot| slot != 0).skip(before);
+    for (place, &entry) in output.iter_mut().zip(held) {
+        *place = entry;
+    }
+    [0, count as u64, 0]
+}
+
+pub fn insert(slots: &mut [u64], counts: &mut [u16], rank: usize, entry: u64, tape: &[u32]) -> [u64; 3] {
+    match open(slots, counts) {
+        Ok(_) if entry == 0 => [3, 0, 0],
+        Ok((_, n)) if rank > n => [4, 0, 0],
+        Ok((_, n)) if n == MAX_ENTRIES => [5, 0, 0],
+        Ok((size, n)) => change(slots, counts, size, n, Change::Insert(rank), entry, tape),
+        Err(cause) => [cause, 0, 0],
+    }
+}
+
+pub fn delete(slots: &mut [u64], counts: &mut [u16], rank: usize, tape: &[u32]) -> [u64; 3] {
+    match open(slots, counts) {
+        Ok((_, n)) if rank >= n => [4, 0, 0],
+        Ok((size, n)) => change(slots, counts, size, n, Change::Delete(rank), 0, tape),
+        Err(cause) => [cause, 0, 0],
+    }
+}
