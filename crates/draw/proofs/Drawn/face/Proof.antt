@@ -1,7 +1,5 @@
 -- `draw::Drawn::face` meets its contract. Assumes nothing.
-use mathlib.Core.Path.{sym, ap}
 use borrow.Author.Needs.{needs}
-use Rattle.draw.specs.Draw.{faceOf}
 use Rattle.draw.proofs.Drawn.face.Statement.{statement}
 use Rattle.draw.proofs.Drawn.face.Tie as tie
 
@@ -12,10 +10,10 @@ enum-told : tie.Need-enum-told
 enum-told c = search needs
 
 returns : tie.Need-returns
-returns c = ap faceOf (sym (c .before .self .given .1))
+returns c = rw (c .before .self .given .1)
 
 returns-2 : tie.Need-returns-2
-returns-2 c = search needs
+returns-2 c = rw (c .enum-told .given .1)
 
 pub face-spec : {M : Type 1} → statement M
 face-spec = tie.close (tie.spec enum-known-self enum-told returns returns-2)

@@ -1,7 +1,5 @@
 -- `draw::DrawnFace::with_place` meets its contract. Assumes nothing.
-use mathlib.Core.Path.{sym, ap}
 use borrow.Author.Needs.{needs}
-use Rattle.draw.specs.Draw.{drawnOf}
 use Rattle.draw.proofs.DrawnFace.with_place.Statement.{statement}
 use Rattle.draw.proofs.DrawnFace.with_place.Tie as tie
 
@@ -12,10 +10,10 @@ enum-told : tie.Need-enum-told
 enum-told c = search needs
 
 returns : tie.Need-returns
-returns c = ap (drawnOf (c .before .before .before .args .after)) (sym (c .before .self .given .1))
+returns c = rw (c .before .self .given .1)
 
 returns-2 : tie.Need-returns-2
-returns-2 c = search needs
+returns-2 c = rw (c .enum-told .given .1)
 
 pub with-place-spec : {M : Type 1} → statement M
 with-place-spec = tie.close (tie.spec enum-known-self enum-told returns returns-2)
