@@ -5,6 +5,8 @@ use lib.ListN.{drop}
 use Rattle.base.specs.Cases.{ifEq, ifLt}
 use Rattle.draw.specs.declared.Drawn.{Drawn}
 use Rattle.draw.specs.declared.Drawn.the-variants.{Face, Ended}
+use Rattle.draw.specs.declared.DrawnFace.{DrawnFace}
+use Rattle.draw.specs.declared.DrawnFace.the-variants as drawn-face
 
 -- Words are read until one is below the limit; the face is that word mod m. `at` is the place of the first word.
 unfoldable pub scan : ℕ → ℕ → List ℕ → ℕ → Drawn
@@ -24,3 +26,13 @@ drawAt = drawFrom (2 ^ 32)
 abbrev pub placeAfter : ℕ → Drawn → ℕ
 placeAfter at (Face face next) = next
 placeAfter at Ended = at
+
+-- What a draw gives apart from the place: its face, or that the tape ended.
+abbrev pub faceOf : Drawn → DrawnFace
+faceOf (Face face next) = drawn-face.Face face
+faceOf Ended = drawn-face.TapeEnded
+
+-- The draw with this place after it and this face.
+abbrev pub drawnOf : ℕ → DrawnFace → Drawn
+drawnOf after (drawn-face.Face face) = Face face after
+drawnOf after drawn-face.TapeEnded = Ended

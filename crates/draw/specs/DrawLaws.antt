@@ -11,7 +11,7 @@ use lib.Seq.{drop-cons}
 use Rattle.base.specs.CaseLaws.{ifEq-yes, ifEq-no, ifLt-yes, ifLt-no, by-eq, by-lt}
 use Rattle.draw.specs.declared.Drawn.{Drawn}
 use Rattle.draw.specs.declared.Drawn.the-variants.{Face, Ended}
-use Rattle.draw.specs.Draw.{scan, drawFrom, drawAt}
+use Rattle.draw.specs.Draw.{scan, drawFrom, drawAt, placeAfter, faceOf, drawnOf}
 
 pub scan-nil : (limit m at : ℕ) → scan limit m [] at ≡ Ended
 unfolding scan
@@ -95,3 +95,8 @@ good-draw W (suc k) tape at =
 pub draw-sound : (m : ℕ) (tape : List ℕ) (at face next : ℕ) → drawAt m tape at ≡ Face face next → Sound m at face next
 unfolding drawAt Good
 draw-sound m tape at face next e = good-draw (2 ^ 32) m tape at face next e
+
+-- A draw is its face and the place after it.
+pub draw-apart : (at : ℕ) (d : Drawn) → drawnOf (placeAfter at d) (faceOf d) ≡ d
+draw-apart at (Face face next) = refl
+draw-apart at Ended = refl

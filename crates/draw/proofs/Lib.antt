@@ -1,0 +1,2 @@
+-- What the walks of `draw_and_advance` and `draw` share.
+mod PlaceCell
