@@ -1,17 +1,18 @@
--- What one byte more does to the collecting of a line: at the end of the chunk, at an LF, and at another byte, with and without room.
--- Assumes nothing.
-use mathlib.Core.Path.{_≡_}
+-- What one byte more does to the collecting of a line: at the end of the chunk, at an LF, and at another byte, with and without room; and
+-- that collecting goes on in the chunk and keeps within the line buffer. Assumes nothing.
+use mathlib.Core.Path.{_≡_, ap}
 use mathlib.Core.Bool.{true, false}
-use mathlib.Core.Logic.{_≢_}
+use mathlib.Core.Logic.{_≢_, ⊎-elim}
 use mathlib.Core.List.{List, [], _∷_, append-nil}
 use Prim.Native.Nat.{ℕ, suc, _+_, _-_, _≤_, _<_}
-use native.Mathlib.Nat.{add-zero, add-suc, suc-add}
+use native.Mathlib.Nat.{add-zero, add-suc, suc-add, min-le-left}
 use native.Mathlib.Numerals.{add-one}
 use native.Mathlib.Omega.{arith}
-use lib.ListN.{length, take, drop, getD, set, length-set, take-append-drop, drop-of-length-le}
+use lib.ListN.{length, take, drop, getD, set, length-set, length-take, take-append-drop, drop-of-length-le}
 use lib.Seq.{take-nil, take-suc-set, drop-set-lt, drop-cons, append-snoc}
-use Rattle.base.specs.CaseLaws.{ifEq-yes, ifEq-no}
-use Rattle.line_input.specs.Lines.{upToLf, hasLf, lengthWithLf, left, behind, collectingOf, collecting}
+use Rattle.base.specs.CaseLaws.{ifEq-yes, ifEq-no, eq-or-ne}
+use Rattle.line_input.specs.declared.Collected.{Collected}
+use Rattle.line_input.specs.Lines.{Outcome, upToLf, hasLf, lengthWithLf, left, behind, collectingOf, collecting}
 
 -- ---- the first byte
 
@@ -119,3 +120,32 @@ module _ (input : List ℕ) (at : ℕ) (line : List ℕ) (have : ℕ) where
     unfolding collecting
     collect-full ne l =
         rw (drop-cons input at 0 more, ← add-one at) (collecting-full line have (getD input at 0) (drop (at + 1) input) at ne l)
+
+-- ---- where to go on, and how many bytes the line buffer holds
+
+length-with : (b : ℕ) (bytes : List ℕ) → 0 < lengthWithLf (b ∷ bytes)
+length-with b bytes = ⊎-elim (λ e. omega (arith, length-lf b bytes e)) (λ ne. omega (arith, length-other b bytes ne)) (eq-or-ne b 10)
+
+module _ (input : List ℕ) (from : ℕ) (line : List ℕ) (have : ℕ) where
+  pub next-further : from < length input → from < collecting input from line have .answer .next
+  unfolding collecting collectingOf left
+  next-further more = rw (drop-cons input from 0 more) (omega (arith, length-with (getD input from 0) (drop (suc from) input)))
+
+  pub have-within : have ≤ length line → collecting input from line have .answer .have ≤ length line
+  unfolding collecting collectingOf left
+  have-within l =
+      let room = length line - have in
+      let part = upToLf (drop from input) in
+      omega (arith, length-take room part, min-le-left room (length part))
+
+  -- the same, of what `collect` returns
+  module _ (r : Collected) (line′ : List ℕ) (e : left r line′ ≡ collecting input from line have) where
+    returned : r ≡ collecting input from line have .answer
+    unfolding left
+    returned = ap (λ (o : Outcome). o .answer) e
+
+    pub collected-further : from < length input → from < r .next
+    collected-further more = rw returned (next-further more)
+
+    pub collected-within : have ≤ length line → r .have ≤ length line
+    collected-within l = rw returned (have-within l)

@@ -7,11 +7,11 @@ use mathlib.Core.List.{List, [], _∷_, _++_, map, append-nil, append-assoc}
 use Prim.Native.Nat.{ℕ, zero, suc, _+_, _-_, _≤_, _<_}
 use native.Mathlib.Nat.{add-zero, min-le-left, min-le-right, sub-zero, suc-sub-suc}
 use native.Mathlib.Omega.{arith}
-use lib.ListN.{length, getD, take, drop, length-append, length-take, length-drop, drop-of-length-le}
-use lib.Seq.{take-at, drop-drop, drop-length, drop-cons, take-nil}
+use lib.ListN.{length, take, drop, length-append, length-take, length-drop, drop-of-length-le}
+use lib.Seq.{take-at, drop-drop, drop-length, take-nil}
 use Rattle.base.specs.CaseLaws.{ifEq-yes, ifEq-no, eq-or-ne, by-lt}
 use Rattle.line_input.specs.Lines.{Outcome, inFront, linesOf, upToLf, hasLf, lengthWithLf, left, behind, collectingOf, collecting}
-use Rattle.line_input.specs.CollectLaws.{upTo-lf, upTo-other, has-lf, has-other, length-lf, length-other}
+use Rattle.line_input.specs.CollectLaws.{upTo-lf, upTo-other, has-lf, has-other, length-lf, length-other, next-further}
 use Rattle.line_input.specs.Chunks.{joined, Gone, with, through, linesOver}
 
 -- ---- lines
@@ -66,9 +66,6 @@ upTo-split (b ∷ bytes) h =
     (λ e. rw (upTo-lf b bytes e, length-lf b bytes e, e))
     (λ ne. rw (upTo-other b bytes ne, length-other b bytes ne) (ap (λ (r : List ℕ). b ∷ r) (upTo-split bytes (sym (has-other b bytes ne) ∙ h))))
     (eq-or-ne b 10)
-
-pub length-with : (b : ℕ) (bytes : List ℕ) → 0 < lengthWithLf (b ∷ bytes)
-length-with b bytes = ⊎-elim (λ e. omega (arith, length-lf b bytes e)) (λ ne. omega (arith, length-other b bytes ne)) (eq-or-ne b 10)
 
 -- ---- the line buffer
 
@@ -142,10 +139,6 @@ module _ {w : ℕ} {p line : List ℕ} {have : ℕ} (chunk rest : List ℕ) (fro
   unfolding collecting collectingOf left
   ended-is = refl
 
-  next-further : from < length chunk → from < after .answer .next
-  unfolding collecting collectingOf left
-  next-further more = rw (drop-cons chunk from 0 more) (omega (arith, length-with (getD chunk from 0) (drop (suc from) chunk)))
-
   -- what the line buffer holds after `collect`
   collected-holds : Holds w (p ++ upToLf bytes) (after .line) (after .answer .have)
   unfolding collecting collectingOf left
@@ -200,9 +193,9 @@ gone-through (suc turns) {w} {p} {line} {have} chunk rest from s l =
     (λ more.
     by-ended (Rest w p (drop from chunk) rest) (collecting chunk from line have .answer .ended) _ _
     (λ h. gone-ended chunk rest from s (sym (ended-is chunk rest from s) ∙ h) _
-    (gone-through turns chunk rest _ (holds-none _ w (collected-holds chunk rest from s .width)) (omega (arith, next-further chunk rest from s more))))
+    (gone-through turns chunk rest _ (holds-none _ w (collected-holds chunk rest from s .width)) (omega (arith, next-further chunk from line have more))))
     (λ h. gone-open chunk rest from s (sym (ended-is chunk rest from s) ∙ h) _
-    (gone-through turns chunk rest _ (collected-holds chunk rest from s) (omega (arith, next-further chunk rest from s more)))))
+    (gone-through turns chunk rest _ (collected-holds chunk rest from s) (omega (arith, next-further chunk from line have more)))))
     (λ past. gone-end chunk rest from s past)
 
 -- ---- the whole input
