@@ -1,5 +1,5 @@
--- Laws of frames: how a line is tested from a place on, that c digits write a number below 16 ^ c, which test decides a frame, and that
--- the words of a tape lie within its line. Assumes nothing.
+-- Laws of frames: how a line is tested from a place on, that c digits write a number below 16 ^ c, which test decides a frame, a proof by
+-- the cases of a frame, and that the words of a tape lie within its line. Assumes nothing.
 use mathlib.Core.Path.{_≡_, refl, ap, sym, _∙_}
 use mathlib.Core.Bool.{Bool, true, false}
 use mathlib.Core.Logic.{_≢_}
@@ -112,6 +112,29 @@ pub frame-hex : (line : List ℕ) → 2 ≤ length line → isHexLine line ≡ t
 unfolding frameOf
 frame-hex line l h = ifLt-no (length line) 2 _ _ l ∙ rw h
 
+-- What holds of a line's frame, whatever its first byte: it holds of each form that has a length of its own and no words, of a tape, and
+-- of no frame.
+module _ (P : Frame → Type 0) (line : List ℕ) (sized : (n : ℕ) (x : Frame) → n ≤ 22 → wordsOf x ≡ 0 → P (ofLength line n x))
+    (tape : P (tapeOf line)) (none : P NoFrame) where
+  by-form : (first : ℕ) → P (formOf first line)
+  unfolding formOf insertOf deleteOf readOf placeOf wordsOf
+  by-form first =
+      by-eq P first 1 _ _ (λ _. sized 22 _ (omega arith) refl)
+      (λ _. by-eq P first 2 _ _ (λ _. sized 6 _ (omega arith) refl)
+      (λ _. by-eq P first 3 _ _ (λ _. sized 10 _ (omega arith) refl)
+      (λ _. by-eq P first 4 _ _ (λ _. tape)
+      (λ _. by-eq P first 5 _ _ (λ _. sized 2 _ (omega arith) refl)
+      (λ _. by-eq P first 6 _ _ (λ _. sized 2 _ (omega arith) refl)
+      (λ _. by-eq P first 7 _ _ (λ _. sized 6 _ (omega arith) refl) (λ _. none)))))))
+
+  pub by-frame : P (frameOf line)
+  unfolding frameOf
+  by-frame = by-lt P (length line) 2 _ _ (λ _. none) (λ _. hex (isHexLine line))
+    where
+      hex : (h : Bool) → P (elim h [ true ↦ formOf (field line 0 2) line | false ↦ NoFrame ])
+      hex true = by-form (field line 0 2)
+      hex false = none
+
 -- ---- the words of a tape line
 
 -- A tape of w words has 2 + 8 w digits; no other frame has words.
@@ -136,29 +159,10 @@ within-tape line =
     (λ _ k (l : k < length line / 8). omega (arith, e, l))))
     (λ _. within-none line NoFrame refl)
 
-within-form : (line : List ℕ) (first : ℕ) → WordsWithin line (formOf first line)
-unfolding formOf insertOf deleteOf readOf placeOf wordsOf
-within-form line first =
-    by-eq (WordsWithin line) first 1 _ _ (λ _. within-length line 22 _ refl)
-    (λ _. by-eq (WordsWithin line) first 2 _ _ (λ _. within-length line 6 _ refl)
-    (λ _. by-eq (WordsWithin line) first 3 _ _ (λ _. within-length line 10 _ refl)
-    (λ _. by-eq (WordsWithin line) first 4 _ _ (λ _. within-tape line)
-    (λ _. by-eq (WordsWithin line) first 5 _ _ (λ _. within-length line 2 _ refl)
-    (λ _. by-eq (WordsWithin line) first 6 _ _ (λ _. within-length line 2 _ refl)
-    (λ _. by-eq (WordsWithin line) first 7 _ _ (λ _. within-length line 6 _ refl) (λ _. within-none line NoFrame refl)))))))
-
-within-frame : (line : List ℕ) → WordsWithin line (frameOf line)
-unfolding frameOf wordsOf
-within-frame line =
-    by-lt (WordsWithin line) (length line) 2 _ _ (λ _. within-none line NoFrame refl) (λ _. hex (isHexLine line))
-  where
-    hex : (h : Bool) → WordsWithin line (elim h [ true ↦ formOf (field line 0 2) line | false ↦ NoFrame ])
-    hex true = within-form line (field line 0 2)
-    hex false = within-none line NoFrame refl
-
 pub word-inside : (line : List ℕ) (k : ℕ) → k < wordsOf (frameOf line) → 10 + 8 * k ≤ length line
-unfolding WordsWithin
-word-inside line k l = within-frame line k l
+unfolding WordsWithin wordsOf
+word-inside line =
+    by-frame (WordsWithin line) line (λ n x _ e. within-length line n x e) (within-tape line) (within-none line NoFrame refl)
 
 pub word-lt : (line : List ℕ) (i : ℕ) → field line i 8 < 2 ^ 32
 word-lt line i = field-lt line i 8

@@ -1,0 +1,6 @@
+-- The lines of an input that comes in chunks: the definitions, their laws, and written inputs.
+pub mod Lines
+pub mod Chunks
+pub mod CollectLaws
+pub mod LineLaws
+pub mod Examples
