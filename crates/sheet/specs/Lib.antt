@@ -1,0 +1,2 @@
+-- What the program holds.
+pub mod Held
