@@ -6,7 +6,7 @@ use Prim.Native.Nat.{ℕ, zero, suc, _+_, _*_, _/_, _%_, _<_, _≤_, _^_}
 use native.Mathlib.Omega.{arith}
 use native.Mathlib.Numerals.{add-one}
 use native.Mathlib.Nat.{div-mul-le-self, mod-lt, mul-comm, zero-mul}
-use lib.ListN.{length, getD, drop, drop-of-length-le}
+use lib.ListN.{length, getD, drop, drop-of-length-le, length-drop}
 use lib.Seq.{drop-cons}
 use Rattle.base.specs.CaseLaws.{ifEq-yes, ifEq-no, ifLt-yes, ifLt-no, by-eq, by-lt}
 use Rattle.draw.specs.declared.Drawn.{Drawn}
@@ -100,3 +100,30 @@ draw-sound m tape at face next e = good-draw (2 ^ 32) m tape at face next e
 pub draw-apart : (at : ℕ) (d : Drawn) → drawnOf (placeAfter at d) (faceOf d) ≡ d
 draw-apart at (Face face next) = refl
 draw-apart at Ended = refl
+
+-- No draw goes past the end of the tape.
+Within : ℕ → Drawn → Type 0
+Within most d = (face next : ℕ) → d ≡ Face face next → next ≤ most
+
+within-ended : (most : ℕ) → Within most Ended
+unfolding Within
+within-ended most f n e = let z : _≡_ {A = ℕ} 0 1 = cc in absurd (omega arith)
+
+within-face : (most face next : ℕ) → next ≤ most → Within most (Face face next)
+unfolding Within
+within-face most face next l f n e = let same : next ≡ n = cc in omega arith
+
+within-scan : (limit m : ℕ) (words : List ℕ) (at most : ℕ) → at + length words ≤ most → Within most (scan limit m words at)
+unfolding scan
+within-scan limit m [] at most l = within-ended most
+within-scan limit m (word ∷ words) at most l =
+    by-lt (Within most) word limit _ _
+    (λ _. within-face most (word % m) (suc at) (omega arith))
+    (λ _. within-scan limit m words (suc at) most (omega arith))
+
+pub draw-within : (m : ℕ) (tape : List ℕ) (at : ℕ) → at ≤ length tape → (face next : ℕ) → drawAt m tape at ≡ Face face next → next ≤ length tape
+unfolding drawAt drawFrom Within
+draw-within m tape at l =
+    by-eq (Within (length tape)) m 1 _ _
+    (λ _. within-face (length tape) 0 at l)
+    (λ _. within-scan _ m (drop at tape) at (length tape) (omega (arith, length-drop at tape)))

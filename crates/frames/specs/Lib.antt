@@ -1,7 +1,2 @@
--- One step of the program on a line.
-pub mod Step
-pub mod Gives
-pub mod TapeLaws
-pub mod AnswerLaws
-pub mod StepLaws
-pub mod PrintLaws
+-- One step of the program on a line: its bounds.
+pub mod StepBounds

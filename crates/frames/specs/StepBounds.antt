@@ -9,7 +9,7 @@ use Rattle.frame_lines.specs.declared.Frame.{Frame}
 use Rattle.frame_lines.specs.declared.Frame.the-variants.{Insert, Delete, Read, Tape, Print, Clear, Place, NoFrame}
 use Rattle.frame_lines.specs.Frame.{frameOf}
 use Rattle.answer_lines.specs.Reply.{bytesOf}
-use Rattle.frames.specs.Step.{Kept, Answered, Step, keeping, changedBy, changed, cleared, taped, answerTo, handed, stepOf}
+use Rattle.frame_answers.specs.Step.{Kept, Answered, Step, keeping, changedBy, changed, cleared, taped, answerTo, handed, stepOf}
 
 -- ---- the bytes of the answer
 

@@ -4,6 +4,7 @@ pub mod Causes
 pub mod Outcome
 pub mod Opening
 pub mod OutcomeLaws
+pub mod AnswerLaws
 pub mod OpeningLaws
 pub mod CallLaws
 pub mod ClearLaws

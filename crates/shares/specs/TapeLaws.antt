@@ -1,12 +1,13 @@
 -- Laws of the run on a tape, and the law that joins it to the courses. Assumes nothing.
 use mathlib.Core.Path.{_≡_, refl, subst}
 use mathlib.Core.List.{List, [], _∷_}
-use Prim.Native.Nat.{ℕ}
+use Prim.Native.Nat.{ℕ, _≤_}
 use native.Mathlib.Omega.{arith}
+use lib.ListN.{length}
 use Rattle.draw.specs.declared.Drawn.{Drawn}
 use Rattle.draw.specs.declared.Drawn.the-variants.{Face, Ended}
 use Rattle.draw.specs.Draw.{drawAt}
-use Rattle.draw.specs.DrawLaws.{Sound, draw-sound}
+use Rattle.draw.specs.DrawLaws.{Sound, draw-sound, draw-within}
 use Rattle.shares.specs.Program.{Program, done, draw, _>>=_, Ends}
 use Rattle.shares.specs.Tape.{ran, ended, afterDraw, afterRun, runAt, facesAfter, facesOn}
 use Rattle.shares.specs.Course.{Follows}
@@ -62,3 +63,17 @@ run-follows {A} (draw m p) tape at a next e =
 pub run-ends : {A : Type 0} (R : A → Type 0) (p : Program A) (tape : List ℕ) (at : ℕ) (a : A) (next : ℕ)
     → Ends R p → runAt p tape at ≡ ran a next → R a
 run-ends R p tape at a next e h = follows-ends R p (facesOn p tape at) a e (run-follows p tape at a next h)
+
+-- A run does not go past the end of the tape.
+pub run-within : {A : Type 0} (p : Program A) (tape : List ℕ) (at : ℕ) → at ≤ length tape → (a : A) (next : ℕ) → runAt p tape at ≡ ran a next
+    → next ≤ length tape
+unfolding runAt afterDraw
+run-within (done b) tape at l a next e = let same : at ≡ next = cc in omega arith
+run-within {A} (draw m p) tape at l a next e =
+    go (drawAt m tape at) (draw-within m tape at l) (λ f n h. run-within (p f) tape n h a next) e
+  where
+    go : (d : Drawn) → ((f n : ℕ) → d ≡ Face f n → n ≤ length tape)
+        → ((f n : ℕ) → n ≤ length tape → runAt (p f) tape n ≡ ran a next → next ≤ length tape)
+        → afterDraw d (λ f n. runAt (p f) tape n) ≡ ran a next → next ≤ length tape
+    go (Face f n) within ih e = ih f n (within f n refl) e
+    go Ended within ih e = let z : _≡_ {A = ℕ} 0 1 = cc in absurd (omega arith)

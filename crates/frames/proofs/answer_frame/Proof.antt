@@ -2,8 +2,8 @@
 use borrow.Author.Needs.{needs}
 use mathlib.Core.Path.{sym, ap, _∙_}
 use Rattle.frame_lines.specs.Frame.{wordsOf}
-use Rattle.frames.specs.Step.{answerTo, entryCount}
-use Rattle.frames.specs.StepLaws.{keeping-gives, printed-gives, cleared-gives}
+use Rattle.frame_answers.specs.Step.{answerTo, entryCount}
+use Rattle.frame_answers.specs.StepLaws.{keeping-gives, printed-gives, cleared-gives}
 use Rattle.frames.proofs.answer_frame.Statement.{statement}
 use Rattle.frames.proofs.answer_frame.Tie as tie
 

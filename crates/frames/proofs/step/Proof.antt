@@ -1,6 +1,6 @@
 -- `step` meets its contract. Assumes nothing.
 use borrow.Author.Needs.{needs}
-use Rattle.frames.specs.StepLaws.{step-short, step-tape, step-waiting, step-done}
+use Rattle.frame_answers.specs.StepLaws.{step-short, step-tape, step-waiting, step-done}
 use Rattle.frames.proofs.step.Statement.{statement}
 use Rattle.frames.proofs.step.Tie as tie
 

@@ -1,0 +1,148 @@
+-- What each frame's answer comes to, told by what its call left. Assumes nothing.
+use mathlib.Core.Path.{_≡_, refl, ap, sym, _∙_}
+use mathlib.Core.Logic.{_≢_}
+use mathlib.Core.List.{List, [], _∷_, _++_, append-nil}
+use Prim.Native.Nat.{ℕ, _+_, _-_, _≤_, _<_}
+use native.Mathlib.Omega.{arith}
+use native.Mathlib.Nat.{zero-add}
+use lib.ListN.{length, getD, take, drop, replicate}
+use lib.Seq.{length-take-le}
+use Rattle.base.specs.CaseLaws.{ifEq-yes, ifEq-no, ifLt-yes, ifLt-no}
+use Rattle.layout.specs.Layout.{Store}
+use Rattle.packed_sheet.specs.declared.Returned.{Returned}
+use Rattle.packed_sheet.specs.declared.Answer.{Answer}
+use Rattle.packed_sheet.specs.Call.{Call, read, returned, clubs}
+use Rattle.packed_sheet.specs.Outcome.{Outcome, outcome, answerOf}
+use Rattle.packed_sheet.specs.Opening.{storeOf, left}
+use Rattle.frame_lines.specs.Frame.{frameOf}
+use Rattle.answer_lines.specs.Reply.{Reply, brief, entries, placed, lineOf, bytesOf}
+use Rattle.answer_lines.specs.Wrote.{Wrote}
+use Rattle.frame_answers.specs.Step.{Kept, Step, entryCount, keeping, readOff, changedBy, changed, readReply, readLine, placeReply, placeLine, clearLine, cleared, lineWords, taped, answerTo, longest, handed, stepOf}
+use Rattle.frame_answers.specs.Gives.{keptOf, Gives, ClearGives}
+use Rattle.packed_sheet.specs.AnswerLaws.{words-within, entries-within}
+
+-- An answer of one line.
+pub one-line : {old new : List ℕ} {at next : ℕ} (reply : Reply) → Wrote old at (lineOf reply) new next → Wrote old at (bytesOf (reply ∷ [])) new next
+unfolding bytesOf
+one-line reply w = rw (append-nil (lineOf reply)) w
+
+-- ---- insert and delete
+
+pub change-gives : (kind waiting : ℕ) (back : Returned) (slots counts tape tape′ : List ℕ) {output output′ : List ℕ} {bytes : ℕ}
+    → tape′ ≡ readOff (back .second) tape
+    → Wrote output 0 (lineOf (brief kind (back .number) (getD counts 1 0))) output′ bytes
+    → Gives (changedBy kind (keptOf (storeOf slots counts) tape waiting) back (storeOf slots counts)) output bytes (waiting - back .second)
+    (storeOf slots counts) tape′ output′
+unfolding changedBy entryCount
+change-gives kind waiting back slots counts tape tape′ e w = record { kept = rw e; wrote = one-line _ w }
+
+module _ (call : Call) (store : Store) (tape : List ℕ) (waiting : ℕ) (given : Answer) (slots counts : List ℕ) (back : Returned)
+    (done : left given slots counts [] ≡ outcome clubs call (take waiting tape) store []) (is : back ≡ returned given) where
+  pub changed-gives : (kind : ℕ) {output output′ tape′ : List ℕ} {bytes waiting′ : ℕ} {store′ : Store}
+      → Gives (changedBy kind (keptOf (storeOf slots counts) tape waiting) back (storeOf slots counts)) output bytes waiting′ store′ tape′ output′
+      → Gives (changed kind (keptOf store tape waiting) (outcome clubs call (take waiting tape) store [])) output bytes waiting′ store′ tape′ output′
+  unfolding changed changedBy
+  changed-gives kind g = rw (← done) (rw is at g)
+
+  -- no more words are read than wait
+  pub words-waiting : ((list : List ℕ) (words : ℕ) → returned (answerOf call list words) .second ≡ words) → waiting ≤ length tape
+      → back .second ≤ waiting
+  words-waiting second l =
+      let most = words-within clubs call (take waiting tape) store [] second in
+      rw (is, ← length-take-le waiting tape l) (rw (← done) at most)
+
+-- ---- read, place and clear
+
+module _ {o : Outcome} {given : Answer} {slots counts output : List ℕ} {back : Returned}
+    (done : left given slots counts output ≡ o) (is : back ≡ returned given) where
+  pub read-refused : back .number ≢ 0 → brief 131 (back .number) (getD counts 1 0) ≡ readLine o (storeOf slots counts)
+  unfolding readLine readReply entryCount
+  read-refused ne = rw (← done, ← is) (sym (ifEq-no (back .number) 0 _ _ ne))
+
+  pub read-accepted : back .number ≡ 0 → entries (getD counts 1 0) (take (back .first) output) ≡ readLine o (storeOf slots counts)
+  unfolding readLine readReply entryCount
+  read-accepted e = rw (← done, ← is) (sym (ifEq-yes (back .number) 0 _ _ e))
+
+  pub place-refused : back .number ≢ 0 → brief 135 (back .number) (getD counts 1 0) ≡ placeLine o (storeOf slots counts)
+  unfolding placeLine placeReply entryCount
+  place-refused ne = rw (← done, ← is) (sym (ifEq-no (back .number) 0 _ _ ne))
+
+  pub place-accepted : back .number ≡ 0 → placed (getD counts 1 0) (back .first) (back .second) ≡ placeLine o (storeOf slots counts)
+  unfolding placeLine placeReply entryCount
+  place-accepted e = rw (← done, ← is) (sym (ifEq-yes (back .number) 0 _ _ e))
+
+  pub clear-gives : {before after : List ℕ} {bytes : ℕ} → Wrote before 0 (lineOf (brief 134 (back .number) (getD counts 1 0))) after bytes
+      → ClearGives o before bytes (storeOf slots counts) after
+  unfolding clearLine entryCount
+  clear-gives w = record { store-is = ap (λ (x : Outcome). x .store) done; wrote = rw (← done, ← is) w }
+
+pub read-most : (first last : ℕ) (store : Store) (given : Answer) (slots counts output output′ : List ℕ) (back : Returned)
+    → left given slots counts output′ ≡ outcome clubs (read first last 64) [] store output → back ≡ returned given → back .number ≡ 0
+    → back .first ≤ 64
+read-most first last store given slots counts output output′ back done is zero-is =
+    let e : returned (outcome clubs (read first last 64) [] store output .answer) ≡ back = rw (← done, is) in
+    rw (← e) (entries-within clubs first last 64 store output (rw e zero-is))
+
+-- ---- tape
+
+module _ (line tape slots counts : List ℕ) (words waiting : ℕ) where
+  pub taped-full : 1024 < waiting + words → {output output′ : List ℕ} {bytes : ℕ}
+      → Wrote output 0 (lineOf (brief 132 9 (getD counts 1 0))) output′ bytes
+      → Gives (taped line words (keptOf (storeOf slots counts) tape waiting)) output bytes waiting (storeOf slots counts) tape output′
+  unfolding taped keeping entryCount
+  taped-full l w = rw (ifLt-yes 1024 (waiting + words) _ _ l) record { kept = refl; wrote = one-line _ w }
+
+  pub taped-more : waiting + words ≤ 1024 → {output output′ tape′ : List ℕ} {bytes : ℕ}
+      → tape′ ≡ take waiting tape ++ (lineWords line 0 words ++ drop (waiting + words) tape)
+      → Wrote output 0 (lineOf (brief 132 0 (getD counts 1 0))) output′ bytes
+      → Gives (taped line words (keptOf (storeOf slots counts) tape waiting)) output bytes (waiting + words) (storeOf slots counts) tape′ output′
+  unfolding taped entryCount
+  taped-more l e w = rw (ifLt-no 1024 (waiting + words) _ _ l) record { kept = rw e; wrote = one-line _ w }
+
+-- ---- a frame
+
+module _ {store : Store} {tape output output′ : List ℕ} {waiting bytes : ℕ} where
+  pub keeping-gives : (reply : Reply) → Wrote output 0 (lineOf reply) output′ bytes
+      → Gives (keeping (keptOf store tape waiting) reply) output bytes waiting store tape output′
+  unfolding keeping
+  keeping-gives reply w = record { kept = refl; wrote = one-line reply w }
+
+  pub printed-gives : (replies : List Reply) → Wrote output 0 (bytesOf replies) output′ bytes
+      → Gives (record { replies = replies; kept = keptOf store tape waiting }) output bytes waiting store tape output′
+  printed-gives replies w = record { kept = refl; wrote = w }
+
+pub cleared-gives : (store : Store) (o : Outcome) {tape output output′ : List ℕ} {waiting bytes : ℕ} {store′ : Store}
+    → ClearGives o output bytes store′ output′ → Gives (cleared (keptOf store tape waiting) o) output bytes waiting store′ tape output′
+unfolding cleared
+cleared-gives store o {tape} {waiting = waiting} g = record {
+  kept = ap (λ (s : Store). keptOf s tape waiting) (g .store-is);
+  wrote = one-line _ (g .wrote);
+}
+
+-- ---- a line
+
+module _ (line : List ℕ) (k : Kept) (output : List ℕ) where
+  abbrev nothing : Step
+  nothing = record { bytes = 0; kept = k; output = output }
+
+  pub step-short : length output < longest → nothing ≡ stepOf line k output
+  unfolding stepOf
+  step-short l = sym (ifLt-yes (length output) longest _ _ l)
+
+  pub step-tape : longest ≤ length output → length (k .tape) ≢ 1024 → nothing ≡ stepOf line k output
+  unfolding stepOf
+  step-tape l ne = sym (ifLt-no (length output) longest _ _ l ∙ ifEq-no (length (k .tape)) 1024 _ _ ne)
+
+  module _ (l : longest ≤ length output) (e : length (k .tape) ≡ 1024) where
+    pub step-waiting : 1024 < k .waiting → nothing ≡ stepOf line k output
+    unfolding stepOf
+    step-waiting w = sym (ifLt-no (length output) longest _ _ l ∙ ifEq-yes (length (k .tape)) 1024 _ _ e ∙ ifLt-yes 1024 (k .waiting) _ _ w)
+
+    pub step-done : k .waiting ≤ 1024 → {bytes waiting : ℕ} {store : Store} {tape output′ : List ℕ}
+        → Gives (answerTo (frameOf line) line k) output bytes waiting store tape output′
+        → record { bytes = bytes; kept = keptOf store tape waiting; output = output′ } ≡ stepOf line k output
+    unfolding stepOf handed
+    step-done w g =
+        let size : _ ≡ length (bytesOf (answerTo (frameOf line) line k .replies)) = g .wrote .end ∙ zero-add _ in
+        rw (g .kept, g .wrote .is, size)
+        (sym (ifLt-no (length output) longest _ _ l ∙ ifEq-yes (length (k .tape)) 1024 _ _ e ∙ ifLt-no 1024 (k .waiting) _ _ w))
