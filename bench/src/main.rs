@@ -19,9 +19,9 @@ use std::time::Instant;
 const BOUND: f64 = 1.25;
 const LENGTHS: [usize; 5] = [8, 64, 200, 512, 1000];
 /// Stores of one length, each with a history of its own.
-const STORES: usize = 8;
+const STORES: usize = 4;
 /// Calls on each store in one measurement.
-const ROUNDS: usize = 8;
+const ROUNDS: usize = 16;
 /// More words than any call on 1,024 entries reads, but for rejected ones.
 const TAPE: usize = 192;
 const BUILT: usize = 1000;
@@ -197,7 +197,7 @@ fn row(kind: &str, n: &str, taken: &Taken, scan: f64) -> bool {
 type Stores = Vec<Store>;
 
 /// The rows of one length.
-fn rows_at(n: usize, times: usize, random: &mut SplitMix64) -> bool {
+fn rows_at(n: usize, times: usize, random: &mut SplitMix64, all_scans: &mut Vec<f64>) -> bool {
     let mut stores: Stores = vec![Store::empty(); STORES];
     for store in &mut stores {
         build::<Proved>(store, &Arguments::list(random, n));
@@ -215,6 +215,7 @@ fn rows_at(n: usize, times: usize, random: &mut SplitMix64) -> bool {
         scans.push(scan_time(&sides[0]));
     }
     let scan = median(&scans);
+    all_scans.append(&mut scans);
     KINDS.iter().fold(true, |within, (kind, time)| {
         let [proved, reference, plain] = [0, 1, 2].map(|side: usize| taken[side].iter().map(time).collect());
         row(kind, &n.to_string(), &Taken { proved, reference, plain }, scan) && within
@@ -247,11 +248,18 @@ fn main() -> ExitCode {
     println!("| call     |         N |   proved | reference |    plain | ratio | middle 4/5   |   scan | /scan |");
     println!("|----------|-----------|----------|-----------|----------|-------|--------------|--------|-------|");
     let mut within = true;
+    let mut scans = Vec::new();
     for n in LENGTHS {
-        within &= rows_at(n, times, &mut random);
+        within &= rows_at(n, times, &mut random, &mut scans);
     }
     within &= row_of_building(times, &mut random);
     println!();
+    println!(
+        "noise: the same scan took {:.0} ns in the middle, {:.0} to {:.0} ns in the middle four fifths of its measurements",
+        median(&scans),
+        quantile(&scans, 0.1),
+        quantile(&scans, 0.9)
+    );
     println!("{}", if within { "every row within 1.25" } else { "a row is above 1.25" });
     ExitCode::from(u8::from(!within))
 }

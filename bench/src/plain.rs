@@ -1,7 +1,6 @@
-//! The same calls once more in safe Rust, written for speed alone: no tables
-//! worked out beforehand, no comparison of candidates one by one, a leaf looked
-//! at in one pass. It keeps `tests/reference`, which is written to be read
-//! beside the paper, from being an easy mark.
+//! The same calls once more in safe Rust, written for speed: no table worked out
+//! for each call, no comparison of candidates one by one. `tests/reference` is
+//! written to be read beside the paper; a ratio to it alone would say little.
 
 use reference::layout::{COUNTS, SLOTS};
 use reference::sizes::MAX_ENTRIES;
@@ -74,19 +73,17 @@ impl Slots {
     }
 }
 
+/// As many entries as there should be, and none of their slots empty.
 fn leaf_is_spread(leaf: &[u64], n: usize) -> bool {
-    let mut next = Slots::new(leaf.len(), n);
-    for (i, &held) in leaf.iter().enumerate() {
-        if i == next.slot {
-            if held == 0 {
-                return false;
-            }
-            next.advance();
-        } else if held != 0 {
-            return false;
-        }
+    if leaf.iter().filter(|&&held| held != 0).count() != n {
+        return false;
     }
-    true
+    let mut next = Slots::new(leaf.len(), n);
+    (0..n).all(|_| {
+        let full = leaf[next.slot] != 0;
+        next.advance();
+        full
+    })
 }
 
 fn tree_is_balanced(counts: &Counts, c: usize, levels: usize, k: usize) -> bool {

@@ -1,12 +1,13 @@
 -- Laws of the test that every number of a list is 0, and of the loop that makes it. Assumes nothing.
 use mathlib.Core.Path.{_≡_, refl, sym, ap, ap₂, _∙_}
 use mathlib.Core.Bool.{Bool, true, false, _&&_}
-use mathlib.Core.List.{List, [], _∷_}
+use mathlib.Core.List.{List, [], _∷_, _++_}
 use Prim.Native.Nat.{ℕ, zero, suc, _+_, _-_, _≤_, _<_}
 use lib.Bits.{bitOr, or-add-and, and-le-l, and-le-r}
 use lib.Dec.{eqb}
-use lib.ListN.{length, getD, drop, replicate, drop-of-length-le}
-use lib.Seq.{drop-cons, getD-drop}
+use lib.ListN.{length, getD, take, drop, replicate, drop-of-length-le, take-append-drop}
+use lib.Seq.{drop-cons, drop-nil, getD-drop}
+use native.Mathlib.Nat.{suc-add, zero-add}
 use native.Mathlib.Numerals.{add-one}
 use native.Mathlib.Omega.{arith}
 use borrow.Author.Tests.{eq-eqb, eqb-true}
@@ -49,6 +50,29 @@ joined-zero a b =
     let none = eqb-true (bitOr a b) 0 h in
     rw (eq-eqb a 0 (omega (arith, none, or-add-and a b, and-le-r a b)), eq-eqb b 0 (omega (arith, none, or-add-and a b, and-le-l a b))))
     (λ h. let both = and-both (eqb a 0) (eqb b 0) h in rw (eqb-true a 0 (both .0), eqb-true b 0 (both .1)))
+
+-- ---- a part and the rest
+
+zero-append : (xs ys : List ℕ) → allZero (xs ++ ys) ≡ (allZero xs && allZero ys)
+unfolding allZero
+zero-append [] ys = refl
+zero-append (x ∷ xs) ys = rw (zero-append xs ys) (sym (and-assoc (eqb x 0) (allZero xs) (allZero ys)))
+
+drop-more : (i m : ℕ) (xs : List ℕ) → drop m (drop i xs) ≡ drop (i + m) xs
+drop-more zero m xs = rw (zero-add m)
+drop-more (suc i) m [] = rw (drop-nil m, suc-add i m)
+drop-more (suc i) m (x ∷ xs) = rw (suc-add i m) (drop-more i m xs)
+
+zero-part : (xs : List ℕ) (i m : ℕ) → allZero (drop i xs) ≡ (allZero (take m (drop i xs)) && allZero (drop (i + m) xs))
+zero-part xs i m =
+    ap allZero (sym (take-append-drop m (drop i xs))) ∙ zero-append (take m (drop i xs)) (drop m (drop i xs)) ∙ rw (drop-more i m xs)
+
+module _ (xs : List ℕ) (i m : ℕ) {part : Bool} (part-is : part ≡ allZero (take m (drop i xs))) where
+  pub part-zero : part ≡ true → allZero (drop i xs) ≡ allZero (drop (i + m) xs)
+  part-zero e = zero-part xs i m ∙ rw (← part-is, e)
+
+  pub part-not-zero : part ≡ false → allZero (drop i xs) ≡ false
+  part-not-zero e = zero-part xs i m ∙ rw (← part-is, e)
 
 -- ---- from the place i on
 

@@ -184,7 +184,7 @@ fn leaf_is_spread(slots: &[u64], from: usize, s: usize, n: usize) -> bool
 }
 
 // Every slot from `from` on is 0. All are joined bit by bit and compared once, since in a sheet all have to be looked at.
-fn slots_are_zero(slots: &[u64], from: usize) -> bool
+fn tail_is_zero(slots: &[u64], from: usize) -> bool
     ensures { λ r. ⌜ r ≡ allZero (drop from (now (slots .entry))) ⌝ }
 {
     let mut joined: u64 = 0;
@@ -196,7 +196,39 @@ fn slots_are_zero(slots: &[u64], from: usize) -> bool
     joined == 0
 }
 
-// Every count from the range number `from` on is 0, found in the same way.
+// The 64 slots from `from` on are 0.
+fn block_is_zero(slots: &[u64], from: usize) -> bool
+    requires room { ⌜ from + 64 ≤ length (now slots) ⌝ }
+    ensures { λ r. ⌜ r ≡ allZero (take 64 (drop from (now (slots .entry)))) ⌝ }
+{
+    let mut joined: u64 = 0;
+    let mut i: usize = 0;
+    while i < 64 {
+        joined = joined | slots[from + i];
+        i += 1;
+    }
+    joined == 0
+}
+
+// Every slot from `from` on is 0: blocks of 64 first, then what is left.
+fn slots_are_zero(slots: &[u64], from: usize) -> bool
+    ensures { λ r. ⌜ r ≡ allZero (drop from (now (slots .entry))) ⌝ }
+{
+    if slots.len() < 64 {
+        return tail_is_zero(slots, from);
+    }
+    let last = slots.len() - 64;
+    let mut at = from;
+    while at <= last {
+        if !block_is_zero(slots, at) {
+            return false;
+        }
+        at += 64;
+    }
+    tail_is_zero(slots, at)
+}
+
+// Every count from the range number `from` on is 0, found in the same way as in a tail of slots.
 fn counts_are_zero(counts: &[u32], from: usize) -> bool
     ensures { λ r. ⌜ r ≡ allZero (drop from (now (counts .entry))) ⌝ }
 {

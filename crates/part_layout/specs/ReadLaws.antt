@@ -1,7 +1,7 @@
 -- Entries read out of slots from left to right: what one slot more leaves. Assumes nothing.
 use mathlib.Core.Path.{_≡_, sym, _∙_, ap}
 use mathlib.Core.List.{List, _∷_}
-use Prim.Native.Nat.{ℕ, _+_, _-_, _≤_, _<_}
+use Prim.Native.Nat.{ℕ, _+_, _<_}
 use native.Mathlib.Numerals.{add-one}
 use native.Mathlib.Omega.{arith}
 use lib.ListN.{length, getD, drop, set, length-drop}
@@ -40,17 +40,10 @@ slot-read slots seen i rest more = record {
         rw (add-one seen, ← drop-cons (nonzero slots) seen 0 more)
         (rest ∙ rw slot (nonzero-entry (getD slots i 0) (drop (i + 1) slots) (omega arith)))
 
--- ---- the output, where `count` entries are wanted from the entry number `first` on, and those among the first `seen` are copied
+-- ---- the output, where the entries from the number `first` on are wanted, and `seen` of them are copied
 
-module _ {old new : List ℕ} (entries : List ℕ) (first seen : ℕ) (w : Pasted old 0 (drop first entries) (seen - first) new) where
-  pub wanted-next : (count x : ℕ) → first ≤ seen → seen < first + count → first + count ≤ length entries → count ≤ length old → x ≡ getD entries seen 0
-      → Pasted old 0 (drop first entries) (seen + 1 - first) (set new (seen - first) x)
-  wanted-next count x start more enough room value =
-      let index : first + (seen - first) ≡ seen = omega arith in
-      let one : seen + 1 - first ≡ seen - first + 1 = omega arith in
-      rw one
-      (pasted-next w (seen - first) x (omega arith) (omega arith) (omega (arith, length-drop first entries))
-      (value ∙ sym (getD-drop first entries (seen - first) 0 ∙ rw index)))
-
-  pub unwanted-next : seen < first → Pasted old 0 (drop first entries) (seen + 1 - first) new
-  unwanted-next early = let none : seen + 1 - first ≡ seen - first = omega arith in rw none w
+pub wanted-next : {old new : List ℕ} (entries : List ℕ) (first seen : ℕ) → Pasted old 0 (drop first entries) seen new → (x : ℕ)
+    → first + seen < length entries → seen < length old → x ≡ getD entries (first + seen) 0
+    → Pasted old 0 (drop first entries) (seen + 1) (set new seen x)
+wanted-next entries first seen w x more room value =
+    pasted-next w seen x (omega arith) room (omega (arith, length-drop first entries)) (value ∙ sym (getD-drop first entries seen 0))

@@ -92,6 +92,23 @@ pub fn zero_slots(slots: &mut [u64], from: usize, to: usize)
     }
 }
 
+// The slot behind the first `first` entries: the others stand from it on.
+fn skip_entries(slots: &[u64], first: usize) -> usize
+    requires entries { ⌜ first ≤ length (nonzero (now slots)) ⌝ }
+    ensures { λ r. ⌜ drop first (nonzero (now (slots .entry))) ≡ nonzero (drop r (now (slots .entry))) ⌝ }
+{
+    let mut seen = 0;
+    let mut at = 0;
+    while seen < first {
+        let x = slots[at];
+        at += 1;
+        if x != 0 {
+            seen += 1;
+        }
+    }
+    at
+}
+
 // Copies `count` of the entries that stand in the slots, from the entry number `first` (from 0) on, to the front of the output.
 pub fn read_out(slots: &[u64], first: usize, count: usize, output: &mut [u64])
     requires entries { ⌜ first + count ≤ length (nonzero (now slots)) ⌝ }
@@ -99,18 +116,15 @@ pub fn read_out(slots: &[u64], first: usize, count: usize, output: &mut [u64])
     ensures { λ _. ⌜ now (output .exit)
         ≡ take count (drop first (nonzero (now (slots .entry)))) ++ drop count (now (output .entry)) ⌝ }
 {
-    let end = first + count;
+    let mut at = skip_entries(slots, first);
     let mut seen = 0;
-    let mut at = 0;
-    while seen < end {
+    while seen < count {
         let x = slots[at];
+        at += 1;
         if x != 0 {
-            if first <= seen {
-                output[seen - first] = x;
-            }
+            output[seen] = x;
             seen += 1;
         }
-        at += 1;
     }
 }
 

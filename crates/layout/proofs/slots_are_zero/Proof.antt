@@ -1,46 +1,60 @@
--- `slots_are_zero` meets its contract. The loop's invariant: the test comes to that of the joined numbers and of those from i on.
--- Assumes nothing.
+-- `slots_are_zero` meets its contract. The loop's invariant: the test comes to that of the slots from `at` on. Assumes nothing.
 use mathlib.Core.Path.{_≡_, refl, sym, _∙_}
-use mathlib.Core.Bool.{_&&_}
 use Prim.Native.Nat.{_-_}
-use lib.Dec.{eqb}
 use lib.ListN.{length, drop}
 use borrow.Author.Needs.{needs}
+use borrow.Author.Tests.{not-true, not-false}
 use Rattle.layout.specs.Check.{allZero}
-use Rattle.layout.specs.ZeroLaws.{zero-joined, zero-joined-all}
+use Rattle.layout.specs.ZeroLaws.{part-zero, part-not-zero}
 use Rattle.layout.proofs.slots_are_zero.Statement.{statement}
 use Rattle.layout.proofs.slots_are_zero.Tie as tie
 
 abbrev Inv-loop : tie.InvT-loop
-Inv-loop slots from joined₀ i₀ joined i = allZero (drop from slots) ≡ (eqb joined 0 && allZero (drop i slots))
+Inv-loop slots from last at₀ at = allZero (drop from slots) ≡ allZero (drop at slots)
 
 abbrev μ-loop : tie.MeasureT-loop
-μ-loop slots from joined₀ i₀ joined i = length slots - i
+μ-loop slots from last at₀ at = length slots - at
+
+tail-is-zero-requires : tie.Need-tail-is-zero-requires Inv-loop μ-loop
+tail-is-zero-requires c κs = search needs
+
+returns : tie.Need-returns Inv-loop μ-loop
+returns c = c .tail-is-zero .ensures
+
+sub-last : tie.Need-sub-last Inv-loop μ-loop
+sub-last c = search needs
 
 loop-holds : tie.Need-loop-holds Inv-loop μ-loop
 loop-holds c = refl
 
-mul-joined : tie.Need-mul-joined Inv-loop μ-loop
-mul-joined c = search needs
+block-is-zero-requires : tie.Need-block-is-zero-requires Inv-loop μ-loop
+block-is-zero-requires c κs = search needs
 
-shared-slice-read-joined : tie.Need-shared-slice-read-joined Inv-loop μ-loop
-shared-slice-read-joined c = search needs
+returns-2 : tie.Need-returns-2 Inv-loop μ-loop
+returns-2 c =
+    let b = c .before in
+    let l = b .before .before in
+    let slots = l .before .before .before .args .slots .now in
+    sym (l .loop .inv ∙ part-not-zero slots (l .loop .at) 64 (b .block-is-zero .ensures) (not-true _ (c .if2 .taken)))
 
-add-i : tie.Need-add-i Inv-loop μ-loop
-add-i c = search needs
+add-at : tie.Need-add-at Inv-loop μ-loop
+add-at c = search needs
 
 loop-less : tie.Need-loop-less Inv-loop μ-loop
 loop-less c = search needs
 
 loop-again : tie.Need-loop-again Inv-loop μ-loop
 loop-again c =
-    let l = c .before .before in
-    l .loop .inv ∙ zero-joined (l .before .args .slots .now) (l .loop .i) (l .loop .joined) (c .before .loop-test .taken)
+    let b = c .before in
+    let l = b .before .before in
+    let slots = l .before .before .before .args .slots .now in
+    l .loop .inv ∙ part-zero slots (l .loop .at) 64 (b .block-is-zero .ensures) (not-false _ (c .if2 .left))
 
-returns : tie.Need-returns Inv-loop μ-loop
-returns c =
-    let l = c .before in
-    sym (l .loop .inv ∙ zero-joined-all (l .before .args .slots .now) (l .loop .i) (l .loop .joined) (c .loop-test .left))
+tail-is-zero-requires-2 : tie.Need-tail-is-zero-requires-2 Inv-loop μ-loop
+tail-is-zero-requires-2 c κs = search needs
+
+returns-3 : tie.Need-returns-3 Inv-loop μ-loop
+returns-3 c = c .tail-is-zero2 .ensures ∙ sym (c .before .before .loop .inv)
 
 pub slots-are-zero-spec : {M : Type 1} → statement M
 slots-are-zero-spec =
@@ -48,10 +62,14 @@ slots-are-zero-spec =
     (tie.spec
     Inv-loop
     μ-loop
+    tail-is-zero-requires
+    returns
+    sub-last
     loop-holds
-    mul-joined
-    shared-slice-read-joined
-    add-i
+    block-is-zero-requires
+    returns-2
+    add-at
     loop-less
     loop-again
-    returns)
+    tail-is-zero-requires-2
+    returns-3)

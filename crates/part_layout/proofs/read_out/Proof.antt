@@ -1,58 +1,51 @@
--- `read_out` meets its contract. The loop's invariant: the entries behind the first `seen` are those of the slots from `at` on, and the
--- wanted ones among the first `seen` are copied. Assumes nothing.
-use mathlib.Core.Path.{_≡_, refl}
-use mathlib.Core.Logic.{⊎-elim}
-use Prim.Native.Nat.{_+_, _-_, _≤_}
+-- `read_out` meets its contract. The loop's invariant: `seen` of the wanted entries are copied, and those behind them are the entries of the
+-- slots from `at` on. Assumes nothing.
+use mathlib.Core.Path.{_≡_, ap, _∙_}
+use Prim.Native.Nat.{ℕ, _+_, _-_, _≤_}
+use native.Mathlib.Nat.{add-zero}
 use native.Mathlib.Omega.{arith}
 use borrow.Author.Needs.{needs}
 use denote.Ref.{now}
 use lib.ListN.{length, drop}
 use Rattle.layout.specs.Leaf.{nonzero}
-use Rattle.layout.specs.LeafLaws.{nonzero-length}
 use Rattle.part_layout.specs.Pasted.{Pasted}
 use Rattle.part_layout.specs.PastedLaws.{pasted-none, pasted-is}
-use Rattle.part_layout.specs.ReadLaws.{Slot, slot-read, wanted-next, unwanted-next}
+use Rattle.part_layout.specs.ReadLaws.{Slot, slot-read, wanted-next}
 use Rattle.part_layout.proofs.read_out.Statement.{statement}
 use Rattle.part_layout.proofs.read_out.Tie as tie
 
 abbrev Inv-loop : tie.InvT-loop
-Inv-loop slots first count output₀ end seen₀ at₀ output seen at =
-    (seen ≤ end) × (drop seen (nonzero slots) ≡ nonzero (drop at slots)) × Pasted output₀ 0 (drop first (nonzero slots)) (seen - first) output
+Inv-loop slots first count output₀ at₀ seen₀ output at seen =
+    (seen ≤ count) × (drop (first + seen) (nonzero slots) ≡ nonzero (drop at slots)) × Pasted output₀ 0 (drop first (nonzero slots)) seen output
 
 abbrev μ-loop : tie.MeasureT-loop
-μ-loop slots first count output₀ end seen₀ at₀ output seen at = length slots - at
+μ-loop slots first count output₀ at₀ seen₀ output at seen = length slots - at
 
 -- The slot that a turn reads.
-slot : (c : tie.In-loop Inv-loop μ-loop) → Slot (now (c .before .before .args .slots)) (c .before .loop .seen) (c .before .loop .at)
+slot : (c : tie.In-loop Inv-loop μ-loop)
+    → let a = c .before .before .before .before .before .args in
+    Slot (now (a .slots)) (a .first + c .before .loop .seen) (c .before .loop .at)
 slot c =
-    let h = c .before .loop in slot-read (now (c .before .before .args .slots)) (h .seen) (h .at) (h .inv .1) (omega arith)
+    let h = c .before .loop in
+    let b = c .before .before .before .before .before in
+    slot-read (now (b .args .slots)) (b .args .first + h .seen) (h .at) (h .inv .1) (omega arith)
 
--- Where the ways of the inner branch meet: the wanted ones among the first `seen` + 1 are copied.
-copied : (c : tie.Joined2 Inv-loop μ-loop)
-    → (let a = c .before .before .before .before .before .args in
-    Pasted (now (a .output)) 0 (drop (a .first) (nonzero (now (a .slots)))) (c .before .before .before .before .loop .seen + 1 - a .first) (c .if2 .output))
-copied c =
-    let h = c .before .before .before .before .loop in
-    let a = c .before .before .before .before .before .args in
-    let entries = nonzero (now (a .slots)) in
-    ⊎-elim
-    (λ w. rw (w .1)
-    (wanted-next entries (a .first) (h .seen) (h .inv .2) (a .count) _ (w .0 .taken) (omega arith) (omega arith) (omega arith)
-    (slot (c .before .before .before) .entry (c .before .if1 .taken))))
-    (λ w. rw (w .1) (unwanted-next entries (a .first) (h .seen) (h .inv .2) (w .0 .left)))
-    (c .if2 .came)
-
-add-end : tie.Need-add-end Inv-loop μ-loop
-add-end c = omega (arith, nonzero-length (now (c .args .slots)))
+skip-entries-requires : tie.Need-skip-entries-requires Inv-loop μ-loop
+skip-entries-requires c κs = omega arith
 
 loop-holds : tie.Need-loop-holds Inv-loop μ-loop
-loop-holds c = (omega arith, refl, pasted-none (omega arith))
+loop-holds c =
+    let a = c .before .before .before .args in
+    (omega arith, ap (λ (x : ℕ). drop x (nonzero (now (a .slots)))) (add-zero (a .first)) ∙ c .skip-entries .ensures, pasted-none (omega arith))
 
 mul-x : tie.Need-mul-x Inv-loop μ-loop
 mul-x c = omega (arith, slot c .inside)
 
 shared-slice-read-x : tie.Need-shared-slice-read-x Inv-loop μ-loop
 shared-slice-read-x c = slot (c .before) .inside
+
+add-at : tie.Need-add-at Inv-loop μ-loop
+add-at c = omega (arith, slot (c .before) .inside)
 
 mul-output : tie.Need-mul-output Inv-loop μ-loop
 mul-output c = search needs
@@ -61,24 +54,30 @@ slice-write-output : tie.Need-slice-write-output Inv-loop μ-loop
 slice-write-output c = search needs
 
 add-seen : tie.Need-add-seen Inv-loop μ-loop
-add-seen c = omega (arith, nonzero-length (now (c .before .before .before .before .before .args .slots)))
-
-add-at : tie.Need-add-at Inv-loop μ-loop
-add-at c = omega (arith, slot (c .before .before) .inside)
+add-seen c = search needs
 
 loop-less : tie.Need-loop-less Inv-loop μ-loop
 loop-less c = omega (arith, slot (c .before .before) .inside)
 
 loop-again : tie.Need-loop-again Inv-loop μ-loop
 loop-again c =
-    ⊎-elim
-    (λ w. rw (w .2, w .3) (
+    let t = c .before .before in
+    let h = t .before .loop in
+    let a = t .before .before .before .before .before .args in
+    let entries = nonzero (now (a .slots)) in
+    let more : a .first + (h .seen + 1) ≡ a .first + h .seen + 1 = omega arith in (
       omega arith,
-      slot (c .before .before) .next (w .0 .taken),
-      copied record { before = record { before = c .before; if1 = w .0 }; if2 = w .1 },
-    ))
-    (λ w. rw (w .1, w .2) (omega arith, slot (c .before .before) .empty (w .0 .left), c .before .before .before .loop .inv .2))
-    (c .if1 .came)
+      ap (λ (x : ℕ). drop x entries) more ∙ slot t .next (c .if1 .taken),
+      wanted-next entries (a .first) (h .seen) (h .inv .2) _ (omega arith) (omega arith) (slot t .entry (c .if1 .taken)),
+    )
+
+loop-less-2 : tie.Need-loop-less-2 Inv-loop μ-loop
+loop-less-2 c = omega (arith, slot (c .before .before) .inside)
+
+loop-again-2 : tie.Need-loop-again-2 Inv-loop μ-loop
+loop-again-2 c =
+    let t = c .before .before in
+    let h = t .before .loop in (h .inv .0, slot t .empty (c .if1 .left), h .inv .2)
 
 same-length : tie.Need-same-length Inv-loop μ-loop
 same-length c = search needs
@@ -86,8 +85,8 @@ same-length c = search needs
 returns : tie.Need-returns Inv-loop μ-loop
 returns c =
     let h = c .before .loop in
-    let a = c .before .before .args in
-    let all : h .seen - a .first ≡ a .count = omega arith in
+    let a = c .before .before .before .before .before .args in
+    let all : h .seen ≡ a .count = omega arith in
     pasted-is (rw all at (h .inv .2)) (a .count) (omega arith)
 
 pub read-out-spec : {M : Type 1} → statement M
@@ -96,15 +95,17 @@ read-out-spec =
     (tie.spec
     Inv-loop
     μ-loop
-    add-end
+    skip-entries-requires
     loop-holds
     mul-x
     shared-slice-read-x
+    add-at
     mul-output
     slice-write-output
     add-seen
-    add-at
     loop-less
     loop-again
+    loop-less-2
+    loop-again-2
     same-length
     returns)
