@@ -1,8 +1,9 @@
 // The program `sheet`: reads frames from standard input, a line each, and answers them on standard output.
 ghost use Prim.Native.Nat.{_+_, _≤_};
 ghost use lib.ListN.{length};
-ghost use Rattle.sheet.specs.Held.{Held, longest};
-use frames::Stepped;
+ghost use Rattle.frame_answers.specs.Step.{longest};
+ghost use Rattle.sheet.specs.Held.{Held};
+use frame_answers::Stepped;
 use line_input::Collected;
 
 // The longest answer, a print of the largest sheet, has so many bytes.

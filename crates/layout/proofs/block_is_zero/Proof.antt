@@ -8,7 +8,7 @@ use lib.Dec.{eqb}
 use lib.ListN.{length, take, drop}
 use borrow.Author.Needs.{needs}
 use Rattle.layout.specs.Check.{allZero}
-use Rattle.layout.specs.ListLaws.{length-part, part-at}
+use Rattle.base.specs.ListLaws.{length-part, part-at}
 use Rattle.layout.specs.ZeroLaws.{zero-joined, zero-joined-all}
 use Rattle.layout.proofs.block_is_zero.Statement.{statement}
 use Rattle.layout.proofs.block_is_zero.Tie as tie
@@ -46,7 +46,7 @@ loop-again c =
     let block = take 64 (drop (a .from) slots) in
     let more : l .loop .i < length block = omega (arith, c .before .loop-test .taken, length-part slots (a .from) 64 (l .before .pre)) in (
       l .loop .inv .0
-          ∙ rw (← part-at slots (a .from) 64 (l .loop .i) (c .before .loop-test .taken)) (zero-joined block (l .loop .i) (l .loop .joined) more),
+          ∙ rw (← part-at slots (a .from) 64 (l .loop .i) 0 (c .before .loop-test .taken)) (zero-joined block (l .loop .i) (l .loop .joined) more),
       omega arith,
     )
 
