@@ -136,6 +136,13 @@ answerTo (Place rank) line k =
     keeping k (placeLine (outcome clubs (place rank) [] (k .store) []) (k .store))
 answerTo NoFrame line k = keeping k (brief 255 8 (entryCount (k .store)))
 
+-- What lines, one after the other, are answered by.
+unfoldable pub answersTo : List (List ℕ) → Kept → List ℕ
+answersTo [] k = []
+answersTo (line ∷ lines) k =
+    let a = answerTo (frameOf line) line k in
+    bytesOf (a .replies) ++ answersTo lines (a .kept)
+
 -- The length of the longest answer: a print of 128 leaves of 33 slots.
 abbrev pub longest : ℕ
 longest = 69012

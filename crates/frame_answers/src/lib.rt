@@ -2,17 +2,16 @@
 use packed_sheet::Returned;
 use sizes::Size;
 ghost use mathlib.Core.Path.{_≡_};
-ghost use mathlib.Core.List.{[], _∷_, _++_};
-ghost use Prim.Native.Nat.{_+_, _-_, _*_, _^_, _<_, _≤_};
+ghost use mathlib.Core.List.{[], _++_};
+ghost use Prim.Native.Nat.{_+_, _*_, _<_, _≤_};
 ghost use lib.ListN.{length, getD, take, drop, replicate};
-ghost use Rattle.sizes.specs.Sizes.{height, leafSlots};
 ghost use Rattle.packed_sheet.specs.Call as call;
 ghost use Rattle.packed_sheet.specs.Outcome.{outcome};
 ghost use Rattle.packed_sheet.specs.Opening.{storeOf};
-ghost use Rattle.frame_lines.specs.Frame.{kindOf, frameOf, wordsOf};
+ghost use Rattle.frame_lines.specs.Frame.{frameOf, wordsOf};
 ghost use Rattle.answer_lines.specs.Reply.{brief, bytesOf, lineOf};
 ghost use Rattle.answer_lines.specs.Wrote.{Wrote};
-ghost use Rattle.frame_answers.specs.Step.{entryCount, readOff, changedBy, readLine, placeLine, changed, taped, lineWords, leafReply, leafReplies, sheetReplies, printLines, answerTo, longest, stepOf};
+ghost use Rattle.frame_answers.specs.Step.{readOff, changedBy, readLine, placeLine, changed, taped, lineWords, leafReply, leafReplies, sheetReplies, printLines, longest};
 ghost use Rattle.frame_answers.specs.Gives.{keptOf, Gives, ClearGives, Printable};
 
 // What a step gives: how many bytes of answer stand at the front of the output, and how many words wait now.

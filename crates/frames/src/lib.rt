@@ -2,18 +2,13 @@
 use frame_answers::Stepped;
 use frame_lines::Frame;
 ghost use mathlib.Core.Path.{_≡_};
-ghost use mathlib.Core.List.{[], _∷_, _++_};
-ghost use Prim.Native.Nat.{_+_, _-_, _*_, _^_, _<_, _≤_};
-ghost use lib.ListN.{length, getD, take, drop, replicate};
-ghost use Rattle.sizes.specs.Sizes.{height, leafSlots};
-ghost use Rattle.packed_sheet.specs.Call as call;
-ghost use Rattle.packed_sheet.specs.Outcome.{outcome};
+ghost use Prim.Native.Nat.{_≤_};
+ghost use lib.ListN.{length};
 ghost use Rattle.packed_sheet.specs.Opening.{storeOf};
-ghost use Rattle.frame_lines.specs.Frame.{kindOf, frameOf, wordsOf};
-ghost use Rattle.answer_lines.specs.Reply.{brief, bytesOf, lineOf};
-ghost use Rattle.answer_lines.specs.Wrote.{Wrote};
-ghost use Rattle.frame_answers.specs.Step.{entryCount, readOff, changedBy, readLine, placeLine, changed, taped, lineWords, leafReply, leafReplies, sheetReplies, printLines, answerTo, longest, stepOf};
-ghost use Rattle.frame_answers.specs.Gives.{keptOf, Gives, ClearGives, Printable};
+ghost use Rattle.frame_lines.specs.Frame.{kindOf, frameOf};
+ghost use Rattle.frame_answers.specs.Step.{answerTo, longest, stepOf};
+ghost use Rattle.frame_answers.specs.Gives.{keptOf, Gives};
+ghost use Rattle.frames.specs.FrameStep.{frameStep};
 
 // The kind of a line of bytes without its LF: the first byte of a frame, or 255 where the line is no frame.
 #[no_mangle]
@@ -128,4 +123,27 @@ pub fn step(
     }
     let frame = frame_lines::decode(line);
     answer_frame(frame, line, slots, counts, tape, waiting, output)
+}
+
+// The step for programs in C: the number of words that wait stands in a slice of one number, before the step and after it. Where that
+// slice is empty, nothing is done and there are no bytes of answer.
+#[no_mangle]
+pub extern "C" fn frame_step(
+    line: &[u8],
+    slots: &mut [u64],
+    counts: &mut [u16],
+    tape: &mut [u32],
+    waiting: &mut [u64],
+    output: &mut [u8],
+) -> usize
+    ensures { λ r. ⌜ record { bytes = r; store = storeOf (now (slots .exit)) (now (counts .exit)); tape = now (tape .exit); waiting = now (waiting .exit); output = now (output .exit) }
+        ≡ frameStep (now (line .entry)) (storeOf (now (slots .entry)) (now (counts .entry))) (now (tape .entry)) (now (waiting .entry)) (now (output .entry)) ⌝ }
+{
+    if waiting.len() < 1 {
+        return 0;
+    }
+    let before = waiting[0] as usize;
+    let stepped = step(line, slots, counts, tape, before, output);
+    waiting[0] = stepped.waiting as u64;
+    stepped.bytes
 }

@@ -3,4 +3,3 @@ pub mod Sizes
 pub mod SizeLaws
 pub mod Capacity
 pub mod Fit
-pub mod SizeTable

@@ -1,0 +1,1 @@
+// A theory: the starred cases of document 01 (specs/).
