@@ -3,3 +3,4 @@ pub mod Reply
 pub mod Wrote
 pub mod WroteLaws
 pub mod DigitLaws
+pub mod FieldLaws
