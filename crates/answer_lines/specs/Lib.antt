@@ -6,3 +6,4 @@ pub mod DigitLaws
 pub mod FieldLaws
 pub mod ReadBack
 pub mod ReadBackLaws
+pub mod Examples
