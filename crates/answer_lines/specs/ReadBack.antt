@@ -1,4 +1,4 @@
--- The reverse of what the program does with its lines: an answer line read as the reply that it writes, and a frame written as a line.
+-- The reverse of the program: an answer line read as the reply that it writes, and a frame written as a line (document 01, "Frames").
 -- Definitions only: they assume nothing.
 use mathlib.Core.Path.{_≡_}
 use mathlib.Core.Logic.{_≢_}
@@ -55,13 +55,13 @@ replyOf line = replyFor (field line 0 2) (field line 2 2) line
 
 -- ---- what fits a line
 
--- Every entry, or slot, has 8 bytes.
-unfoldable pub Entries : List ℕ → Type 0
-Entries list = Every (λ (e : ℕ). e < 2 ^ 64) list
+-- Every entry or slot fits 8 bytes.
+unfoldable pub EntriesFit : List ℕ → Type 0
+EntriesFit list = Every (λ (e : ℕ). e < 2 ^ 64) list
 
--- Each number fits its field, and the answer of three fields is not one that has more, or is laid out as a print: its first byte is not 90
--- or 91 hexadecimal, and with 83 or 87 it has a cause.
-pub record Brief (first cause n : ℕ) : Type 0 where
+-- The three numbers of a `brief` fit their fields, and its line is not one of another form: the first byte is not one of a print, 90 or 91
+-- hexadecimal, and with 83 or 87 there is a cause.
+pub record BriefFits (first cause n : ℕ) : Type 0 where
   pub first-fits : first < 256
   pub cause-fits : cause < 256
   pub n-fits : n < 65536
@@ -70,12 +70,13 @@ pub record Brief (first cause n : ℕ) : Type 0 where
   pub refused-read : first ≡ 131 → cause ≢ 0
   pub refused-place : first ≡ 135 → cause ≢ 0
 
+-- Each number fits its field.
 unfoldable pub Writable : Reply → Type 0
-Writable (brief first cause n) = Brief first cause n
-Writable (entries n list) = (n < 65536) × Entries list
+Writable (brief first cause n) = BriefFits first cause n
+Writable (entries n list) = (n < 65536) × EntriesFit list
 Writable (placed n place points) = (n < 65536) × (place < 65536) × (points < 65536)
 Writable (sheet m n) = (m < 65536) × (n < 65536)
-Writable (leaf number count slots) = (number < 65536) × (count < 65536) × Entries slots
+Writable (leaf number count slots) = (number < 65536) × (count < 65536) × EntriesFit slots
 
 -- ---- a frame, written
 
@@ -95,20 +96,20 @@ operands Clear words = []
 operands (Place rank) words = digits 4 rank
 operands NoFrame words = []
 
--- The line, without LF. 255, FF in hexadecimal, is the first byte of no frame.
+-- The line, without LF. `NoFrame` gives FF, which is no frame.
 unfoldable pub frameLine : Frame → List ℕ → List ℕ
 frameLine frame words = digits 2 (kind frame) ++ operands frame words
 
--- Every word has 4 bytes.
-unfoldable pub Words : List ℕ → Type 0
-Words words = Every (λ (w : ℕ). w < 2 ^ 32) words
+-- Every word fits 4 bytes.
+unfoldable pub WordsFit : List ℕ → Type 0
+WordsFit words = Every (λ (w : ℕ). w < 2 ^ 32) words
 
 -- Each number fits its field; a tape has 1 to 16 words, and counts them.
 unfoldable pub WritableFrame : Frame → List ℕ → Type 0
 WritableFrame (Insert rank entry) words = (rank < 65536) × (entry < 2 ^ 64)
 WritableFrame (Delete rank) words = rank < 65536
 WritableFrame (Read first last) words = (first < 65536) × (last < 65536)
-WritableFrame (Tape count) words = (count ≡ length words) × (1 ≤ count) × (count ≤ 16) × Words words
+WritableFrame (Tape count) words = (count ≡ length words) × (1 ≤ count) × (count ≤ 16) × WordsFit words
 WritableFrame Print words = Unit {0}
 WritableFrame Clear words = Unit {0}
 WritableFrame (Place rank) words = rank < 65536

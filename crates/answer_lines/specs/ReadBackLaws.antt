@@ -13,13 +13,13 @@ use Rattle.frame_lines.specs.declared.Frame.the-variants.{Insert, Delete, Read,
 use Rattle.frame_lines.specs.Frame.{allHex, field, insertOf, deleteOf, readOf, tapeOf, placeOf, ofLength, formOf, frameOf, wordAt}
 use Rattle.frame_lines.specs.FrameLaws.{line-even, length-is, frame-hex}
 use Rattle.answer_lines.specs.Reply.{digits, entryDigits, Reply, brief, entries, placed, sheet, leaf, heading, title, encode}
-use Rattle.answer_lines.specs.ReadBack.{entriesFrom, briefOf, entriesOf, placedOf, sheetOf, leafOf, acceptedOf, replyFor, replyOf, Entries, Brief, Writable, wordDigits, operands, frameLine, Words, WritableFrame}
+use Rattle.answer_lines.specs.ReadBack.{entriesFrom, briefOf, entriesOf, placedOf, sheetOf, leafOf, acceptedOf, replyFor, replyOf, EntriesFit, BriefFits, Writable, wordDigits, operands, frameLine, WordsFit, WritableFrame}
 use Rattle.answer_lines.specs.DigitLaws.{length-digits, length-entries, length-heading, length-title}
 use Rattle.answer_lines.specs.FieldLaws.{hex-append, hex-digits, field-digits, field-behind, field-first, field-last}
 
--- ---- a byte and two numbers
+-- ---- what a line begins with
 
--- A line begins with a byte and two numbers of p and q digits.
+-- A first byte, and two numbers of p and q digits.
 unfoldable front : ℕ → ℕ → ℕ → ℕ → ℕ → List ℕ
 front first p a q b = digits 2 first ++ (digits p a ++ digits q b)
 
@@ -56,8 +56,8 @@ module _ (first p a q b : ℕ) where
 
 -- ---- the entries after them
 
-entries-back : (list xs : List ℕ) (n : ℕ) → length xs ≡ n → Entries list → entriesFrom (xs ++ entryDigits list) n (length list) ≡ list
-unfolding entriesFrom entryDigits Entries Every
+entries-back : (list xs : List ℕ) (n : ℕ) → length xs ≡ n → EntriesFit list → entriesFrom (xs ++ entryDigits list) n (length list) ≡ list
+unfolding entriesFrom entryDigits EntriesFit Every
 entries-back [] xs n at fits = refl
 entries-back (e ∷ list) xs n at fits =
     let next : length (xs ++ digits 16 e) ≡ n + 16 = length-append xs (digits 16 e) ∙ rw (at, length-digits 16 e) in
@@ -66,7 +66,7 @@ entries-back (e ∷ list) xs n at fits =
     (rw (← append-assoc xs (digits 16 e) (entryDigits list)) (entries-back list (xs ++ digits 16 e) (n + 16) next (fits .1)))
 
 -- As many as there are.
-all-back : (list xs : List ℕ) (n : ℕ) → length xs ≡ n → Entries list
+all-back : (list xs : List ℕ) (n : ℕ) → length xs ≡ n → EntriesFit list
     → entriesFrom (xs ++ entryDigits list) n ((length (xs ++ entryDigits list) - n) / 16) ≡ list
 all-back list xs n at fits =
     let count : (length (xs ++ entryDigits list) - n) / 16 ≡ length list =
@@ -76,7 +76,7 @@ all-back list xs n at fits =
 -- ---- an answer line
 
 module _ (first cause n : ℕ) where
-  brief-form : Brief first cause n → (line : List ℕ) → replyFor first cause line ≡ briefOf line
+  brief-form : BriefFits first cause n → (line : List ℕ) → replyFor first cause line ≡ briefOf line
   unfolding replyFor acceptedOf
   brief-form w line =
       ifEq-no first 144 _ _ (w .no-sheet)
@@ -86,7 +86,7 @@ module _ (first cause n : ℕ) where
       ifEq-no first 131 _ _ (λ h. w .refused-read h e) ∙ ifEq-no first 135 _ _ (λ h. w .refused-place h e))
       (λ _. refl)
 
-  brief-back : Brief first cause n → replyOf (heading first cause n) ≡ brief first cause n
+  brief-back : BriefFits first cause n → replyOf (heading first cause n) ≡ brief first cause n
   unfolding replyOf briefOf heading front
   brief-back w =
       let line = heading first cause n in
@@ -95,7 +95,7 @@ module _ (first cause n : ℕ) where
       let k : field line 4 4 ≡ n = third-alone first 2 cause 4 n (w .n-fits) in
       rw (f, c) (brief-form w line ∙ rw (f, c, k))
 
-entries-line : (n : ℕ) (list : List ℕ) → n < 65536 → Entries list → replyOf (heading 131 0 n ++ entryDigits list) ≡ entries n list
+entries-line : (n : ℕ) (list : List ℕ) → n < 65536 → EntriesFit list → replyOf (heading 131 0 n ++ entryDigits list) ≡ entries n list
 unfolding replyOf replyFor acceptedOf entriesOf heading front ifEq
 entries-line n list fits all =
     let rest = entryDigits list in
@@ -123,7 +123,7 @@ sheet-line m n m-fits n-fits =
     ap (λ (f : ℕ). replyFor f (field line 2 2) line) (first-alone 144 4 m 4 n (omega arith))
     ∙ ap₂ sheet (second-alone 144 4 m 4 n m-fits) (third-alone 144 4 m 4 n n-fits)
 
-leaf-line : (number count : ℕ) (slots : List ℕ) → number < 65536 → count < 65536 → Entries slots
+leaf-line : (number count : ℕ) (slots : List ℕ) → number < 65536 → count < 65536 → EntriesFit slots
     → replyOf (title 145 number count ++ entryDigits slots) ≡ leaf number count slots
 unfolding replyOf replyFor leafOf title front ifEq
 leaf-line number count slots number-fits count-fits all =
@@ -231,9 +231,9 @@ unfolding wordDigits allHex
 hex-words [] = refl
 hex-words (w ∷ words) = hex-append (digits 8 w) (wordDigits words) (hex-digits 8 w) (hex-words words)
 
-word-behind : (words xs : List ℕ) (n k : ℕ) → length xs ≡ n → Words words → k < length words
+word-behind : (words xs : List ℕ) (n k : ℕ) → length xs ≡ n → WordsFit words → k < length words
     → field (xs ++ wordDigits words) (n + 8 * k) 8 ≡ getD words k 0
-unfolding wordDigits Words Every
+unfolding wordDigits WordsFit Every
 word-behind [] xs n k at fits l = absurd (omega arith)
 word-behind (w ∷ words) xs n zero at fits l = field-digits xs (wordDigits words) (n + 8 * 0) 8 w (omega (arith, at)) (fits .0)
 word-behind (w ∷ words) xs n (suc k) at fits l =
