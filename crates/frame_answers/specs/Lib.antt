@@ -4,3 +4,4 @@ pub mod Gives
 pub mod TapeLaws
 pub mod StepLaws
 pub mod PrintLaws
+pub mod CountLaws

@@ -143,7 +143,8 @@ both-true true true e = (refl, refl)
 both-true true false e = let z : _≡_ {A = ℕ} 0 1 = cc in absurd (omega arith)
 both-true false b e = let z : _≡_ {A = ℕ} 0 1 = cc in absurd (omega arith)
 
-size-known : (cap : Capacity) (store : Store) (c : Contents) → decode cap store ≡ some c → c .shape .size ≡ getD (store .counts) 0 0
+-- M, which a print says, is the size parameter.
+pub size-known : (cap : Capacity) (store : Store) (c : Contents) → decode cap store ≡ some c → c .shape .size ≡ getD (store .counts) 0 0
 unfolding decode shapeOf
 size-known cap store c = by-test (sheetTest cap store)
   where
