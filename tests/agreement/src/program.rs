@@ -102,17 +102,19 @@ fn difference(seed: u64, input: &[u8], written: &[u8], expected: &[u8]) -> Strin
         }
         at += 1;
     }
-    let shown = |bytes: &[u8]| bytes[..bytes.len().min(300)].escape_ascii().to_string();
+    let from = start.max(parted.saturating_sub(80));
+    let shown = |bytes: &[u8], most: usize| bytes[..bytes.len().min(most)].escape_ascii().to_string();
     let mut text = format!(
-        "seed {seed}, line {} of {}: outputs part at byte {parted}\n  expected {}\n  written  {}\n",
+        "seed {seed}, line {} of {}: answers part at byte {}\n  expected {}\n  written  {}\n",
         at + 1,
         lines.len(),
-        shown(&expected[start.min(expected.len())..]),
-        shown(&written[start.min(written.len())..]),
+        parted - start,
+        shown(&expected[from..], 160),
+        shown(&written[from..], 160),
     );
     let first = at.saturating_sub(AROUND);
     for (number, line) in lines.iter().enumerate().skip(first).take(at - first + AROUND) {
-        text.push_str(&format!("  line {}: {}\n", number + 1, shown(line)));
+        text.push_str(&format!("  line {}: {}\n", number + 1, shown(line, 300)));
     }
     text + &save(&format!("lines-{seed}"), input)
 }
