@@ -62,7 +62,7 @@ pub fn expected_for(input: &[u8]) -> Vec<u8> {
 /// The lines of an input; a last one without LF counts if it holds a character.
 pub fn lines_of(input: &[u8]) -> Vec<&[u8]> {
     let mut lines: Vec<&[u8]> = input.split(|byte| *byte == b'\n').collect();
-    if lines.last().is_some_and(|last| last.is_empty()) {
+    if lines.last().map_or(false, |last| last.is_empty()) {
         lines.pop();
     }
     lines
