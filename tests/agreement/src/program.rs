@@ -1,7 +1,7 @@
 //! The proved program `sheet` beside the second implementation, on the same
 //! input.
 
-use crate::save;
+use crate::{proved, save};
 use reference::frames::{self, Program};
 use std::collections::{BTreeMap, BTreeSet};
 use std::io::{self, Read, Write};
@@ -68,10 +68,14 @@ pub fn lines_of(input: &[u8]) -> Vec<&[u8]> {
     lines
 }
 
-/// The program writes for the input what the second implementation writes;
-/// else the test ends with the seed, the number of the line and the lines
-/// around it.
+/// The kinds of the lines and what the program writes for them are those of
+/// the second implementation; else the test ends with the seed, the number of
+/// the line and the lines around it.
 pub fn agrees(seed: u64, input: &[u8]) -> Met {
+    for (number, line) in lines_of(input).into_iter().enumerate() {
+        let (expected, found) = (frames::frame_kind(line), proved::frame_kind_of(line));
+        assert_eq!(found, expected, "seed {seed}, kind of line {}: {}", number + 1, line.escape_ascii());
+    }
     let written = written_for(|to| to.write_all(input));
     same(seed, input, &written);
     Met::in_output(lines_of(input).len() as u64, &written)

@@ -1,10 +1,11 @@
 //! usage: long [MINUTES [SEED]]
 //! Random histories of calls and of lines, one of each for a seed, until the
-//! time is over; the first seed is the time of day unless it is given.
+//! time is over; the first seed is the time unless it is given.
 
 use agreement::histories::{self, BORDER, FULL, SHORT};
 use agreement::{lines, program};
 use std::env;
+use std::process::exit;
 use std::time::{Duration, Instant, SystemTime};
 
 /// Calls, and lines, of one history.
@@ -15,11 +16,20 @@ fn seed_by_time() -> u64 {
     time.as_secs() * 1000 + u64::from(time.subsec_millis())
 }
 
+/// The minutes and the first seed, where the arguments are in order.
+fn arguments() -> Option<(u32, u64)> {
+    let given: Vec<String> = env::args().skip(1).collect();
+    let minutes = given.first().map_or(Some(10), |text| text.parse().ok())?;
+    let seed = given.get(1).map_or_else(|| Some(seed_by_time()), |text| text.parse().ok())?;
+    (given.len() <= 2).then_some((minutes, seed))
+}
+
 fn main() {
-    let arguments: Vec<String> = env::args().skip(1).collect();
-    let minutes: f64 = arguments.first().map_or(10.0, |text| text.parse().expect("MINUTES is a number"));
-    let first: u64 = arguments.get(1).map_or_else(seed_by_time, |text| text.parse().expect("SEED is a whole number"));
-    let limit = Duration::from_secs_f64(60.0 * minutes);
+    let (minutes, first) = arguments().unwrap_or_else(|| {
+        eprintln!("usage: tests/long [MINUTES [SEED]], whole numbers");
+        exit(2)
+    });
+    let limit = Duration::from_secs(60 * u64::from(minutes));
     let start = Instant::now();
     let (mut seed, mut calls, mut answered) = (first, 0, 0);
     while seed == first || start.elapsed() < limit {
