@@ -168,8 +168,9 @@ def divided():
         program.stdin.close()
         found = reader.stdout.read()
         os.wait()
-        program.wait()
+        status = program.wait()
         reader.wait()
+        assert status == 0, f"status {status}"
         assert found == (expected(part) if size == 1 else wanted), f"pieces of {size} bytes"
 
 

@@ -1,11 +1,16 @@
 //! The proved library beside the second implementation: each call is made on
 //! both, and answers, output and stores must be the same.
 
+pub mod histories;
+pub mod lines;
+pub mod program;
 pub mod proved;
 
 use reference::calls;
 use reference::layout::{COUNTS, SLOTS};
-use std::collections::VecDeque;
+use std::fs;
+use std::io::{self, Write};
+use std::path::Path;
 
 /// The number of the cause or 0, and the two values.
 pub type Returned = [u64; 3];
@@ -59,13 +64,13 @@ fn by_reference(call: &Call, store: &mut Store) -> (Returned, Vec<u64>) {
     ([answer.number() as u64, first as u64, second as u64], out)
 }
 
-/// Two stores, one for each implementation, and the last calls made on them.
+/// Two stores, one for each implementation, and the calls made on them, each
+/// tape cut to the words that were read.
 pub struct Both {
     pub store: Store,
     proved: Store,
     seed: u64,
-    made: u64,
-    last: VecDeque<Call>,
+    made: Vec<Call>,
 }
 
 impl Both {
@@ -74,35 +79,60 @@ impl Both {
             proved: store.clone(),
             store,
             seed,
-            made: 0,
-            last: VecDeque::new(),
+            made: Vec::new(),
         }
     }
 
     /// Makes the call on both; they agree, or the test ends with the seed and
-    /// the last calls.
-    pub fn call(&mut self, call: Call) -> Returned {
+    /// the history.
+    pub fn call(&mut self, mut call: Call) -> Returned {
         let (answer, output) = by_reference(&call, &mut self.store);
         let (proved, proved_output) = proved::call(&call, &mut self.proved);
-        self.made += 1;
-        self.last.push_back(call);
-        if self.last.len() > 4 {
-            self.last.pop_front();
-        }
         let same = answer == proved && output == proved_output && self.store == self.proved;
+        match &mut call {
+            Call::Insert { tape, .. } | Call::Delete { tape, .. } if same && answer[0] != 7 => {
+                tape.truncate(answer[2] as usize);
+                tape.shrink_to_fit();
+            }
+            _ => {}
+        }
+        self.made.push(call);
         assert!(
             same,
-            "seed {}, call {}: second implementation {answer:?}, proved {proved:?}, stores equal: {}, output equal: {}; last calls {:?}",
+            "seed {}, call {}: second implementation {answer:?}, proved {proved:?}, stores equal: {}, output equal: {}\n{}",
             self.seed,
-            self.made,
+            self.made.len(),
             self.store == self.proved,
             output == proved_output,
-            self.last,
+            self.history(),
         );
         answer
     }
 
-    pub fn made(&self) -> u64 {
-        self.made
+    /// The last calls, and the name of a file with all of them.
+    fn history(&self) -> String {
+        let calls: Vec<String> = self.made.iter().map(|call| format!("{call:X?}\n")).collect();
+        let last = calls[calls.len().saturating_sub(10)..].concat();
+        last + &save(&format!("calls-{}", self.seed), calls.concat().as_bytes())
     }
+
+    pub fn made(&self) -> u64 {
+        self.made.len() as u64
+    }
+}
+
+/// Puts a history that failed into a file; a line that names it.
+fn save(name: &str, history: &[u8]) -> String {
+    let directory = Path::new(env!("CARGO_MANIFEST_DIR")).join("../../target/agreement");
+    let file = directory.join(name);
+    match fs::create_dir_all(&directory).and_then(|()| fs::write(&file, history)) {
+        Ok(()) => format!("the whole history: target/agreement/{name}\n"),
+        Err(error) => format!("the whole history could not be written to target/agreement/{name}: {error}\n"),
+    }
+}
+
+/// A line about what a test did, which is shown also where the test passes.
+pub fn say(text: &str) {
+    // Standard error itself: the test runner keeps back what eprintln writes.
+    io::stderr().write_all(format!("counted: {text}\n").as_bytes()).unwrap();
 }

@@ -1,6 +1,6 @@
 //! The kind of a line, by both: valid frames, damaged ones, and any bytes.
 
-use agreement::proved;
+use agreement::{proved, say};
 use reference::frames::frame_kind;
 use reference::random::SplitMix64;
 
@@ -41,6 +41,7 @@ fn kinds_of_lines() {
         assert_eq!(proved::frame_kind_of(&line), kind, "line {number}: {line:?}");
         seen[kind as usize] += 1;
     }
+    say(&format!("{} kinds", seen.iter().sum::<u64>()));
     for kind in [1, 2, 3, 4, 5, 6, 7, 255] {
         assert!(seen[kind] > 100, "kind {kind}");
     }

@@ -104,7 +104,7 @@ fn tape_line(fields: &[u8]) -> Option<TapeLine> {
 
 /// The bytes that a line of upper-case hexadecimal pairs tells.
 fn hex_bytes<'a>(line: &[u8], bytes: &'a mut [u8; LONGEST_FRAME]) -> Option<&'a [u8]> {
-    if line.len() > LONGEST_LINE || !line.len().is_multiple_of(2) {
+    if line.len() > LONGEST_LINE || line.len() % 2 != 0 {
         return None;
     }
     for (byte, pair) in bytes.iter_mut().zip(line.chunks_exact(2)) {
@@ -179,10 +179,13 @@ pub fn step(
     waiting: &mut Waiting,
     out: &mut Vec<u8>,
 ) {
-    let Some(frame) = decode(line) else {
-        put_head(out, 0xFF, Cause::NoFrame.number(), calls::length(counts));
-        out.push(b'\n');
-        return;
+    let frame = match decode(line) {
+        Some(frame) => frame,
+        None => {
+            put_head(out, 0xFF, Cause::NoFrame.number(), calls::length(counts));
+            out.push(b'\n');
+            return;
+        }
     };
     let mut entries = [0; READ_ENTRIES];
     let answer = carry_out(&frame, slots, counts, waiting, &mut entries);

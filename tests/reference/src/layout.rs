@@ -184,7 +184,7 @@ fn counts_are_sound(shape: &Shape, counts: &Counts) -> bool {
             let left = usize::from(counts[2 * k]);
             let right = usize::from(counts[2 * k + 1]);
             // The balance entry is the one at position `left`.
-            n == left + right && candidate_positions(n, c).is_some_and(|p| p.contains(&left))
+            n == left + right && candidate_positions(n, c).map_or(false, |p| p.contains(&left))
         })
     });
     halves_are_sound && all_zero(&counts[2 * shape.leaves()..])

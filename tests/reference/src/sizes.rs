@@ -78,7 +78,7 @@ impl Size {
             return 0;
         }
         let unit = (4 * self.g() as u128) << depth;
-        (self.0 as u128).div_ceil(unit) as usize
+        ((self.0 as u128 + unit - 1) / unit) as usize
     }
 }
 
@@ -91,7 +91,8 @@ pub const fn candidate_positions(n: usize, c: usize) -> Option<Range<usize>> {
     if c > n {
         return None;
     }
-    let first = n.div_ceil(2) - c.div_ceil(2);
+    // ⌈n/2⌉ is n − ⌊n/2⌋.
+    let first = (n - n / 2) - (c - c / 2);
     Some(first..first + c)
 }
 

@@ -214,8 +214,9 @@ fn tapes_that_end_at_every_place() {
 fn cut_everywhere(sheet: &Store, words: &[u32], call: impl Fn(&mut Store, &[u32]) -> Answer) {
     let mut changed = sheet.clone();
     let answer = call(&mut changed, words);
-    let Answer::Changed { words: read, .. } = answer else {
-        panic!("refused: {answer:?}");
+    let read = match answer {
+        Answer::Changed { words, .. } => words,
+        _ => panic!("refused: {answer:?}"),
     };
     let mut store = sheet.clone();
     for end in 0..read {

@@ -29,13 +29,13 @@ fn leaf_slots(m: usize) -> usize {
 
 pub fn candidates(m: usize, depth: usize) -> usize {
     let unit = (4 * g(m)) << depth;
-    m.div_ceil(unit)
+    (m + unit - 1) / unit
 }
 
 /// The number, from 1, of the first of `c` candidates among `n` entries.
 fn first_candidate(n: usize, c: usize) -> usize {
     assert!(c <= n, "candidates fit");
-    1 + n.div_ceil(2) - c.div_ceil(2)
+    1 + (n + 1) / 2 - (c + 1) / 2
 }
 
 /// Lays out a list by size and balance entries. `balance` is given the range,
