@@ -1,5 +1,5 @@
 /* A small display program: enters boats, strikes one out, and prints place, points and sail number of each;
- * then the kinds of some lines. */
+ * then the kinds of some lines, and what frames are answered by on a cleared sheet. */
 #include "frames.h"
 #include "sheet.h"
 
@@ -10,6 +10,8 @@
 
 static uint64_t slots[SHEET_SLOTS];
 static uint16_t counts[SHEET_COUNTS];
+static uint32_t words[FRAME_TAPE_WORDS];
+static uint8_t answers[FRAME_OUTPUT];
 
 /* Stops the program where a call was refused. */
 static void accepted(const char *call, size_t number) {
@@ -21,11 +23,12 @@ static void accepted(const char *call, size_t number) {
 
 int main(void) {
     static const uint64_t boats[] = {117, 42, 2024, 7, 311};
+    static const char *const frames[] = {"010000000000000000000A", "0400000001", "010001000000000000000B", "05"};
     static const char *const lines[] = {"010000000000000000000A", "0400000001", "05", "0a", ""};
     const size_t n = sizeof boats / sizeof boats[0];
     uint32_t tape[16];
-    uint64_t answer[2], output[5];
-    size_t i;
+    uint64_t answer[2], output[5], waiting[1] = {0};
+    size_t i, bytes;
 
     for (i = 0; i < sizeof tape / sizeof tape[0]; i++)
         tape[i] = (uint32_t)(2654435761u * (i + 1));
@@ -49,5 +52,12 @@ int main(void) {
 
     for (i = 0; i < sizeof lines / sizeof lines[0]; i++)
         printf("%s: %u\n", lines[i], frame_kind((const uint8_t *)lines[i], strlen(lines[i])));
+
+    accepted("clear", sheet_clear(slots, SHEET_SLOTS, counts, SHEET_COUNTS, answer, 2));
+    for (i = 0; i < sizeof frames / sizeof frames[0]; i++) {
+        bytes = frame_step((const uint8_t *)frames[i], strlen(frames[i]), slots, SHEET_SLOTS, counts, SHEET_COUNTS, words, FRAME_TAPE_WORDS,
+                           waiting, 1, answers, FRAME_OUTPUT);
+        fwrite(answers, 1, bytes, stdout);
+    }
     return 0;
 }

@@ -43,6 +43,20 @@ extern "C" {
     fn sheet_place(slots: *const u64, slots_len: usize, counts: *const u16, counts_len: usize, rank: usize, answer: *mut u64, answer_len: usize) -> usize;
     fn sheet_check(slots: *const u64, slots_len: usize, counts: *const u16, counts_len: usize, answer: *mut u64, answer_len: usize) -> usize;
     fn frame_kind(line: *const u8, line_len: usize) -> u8;
+    fn frame_step(
+        line: *const u8,
+        line_len: usize,
+        slots: *mut u64,
+        slots_len: usize,
+        counts: *mut u16,
+        counts_len: usize,
+        tape: *mut u32,
+        tape_len: usize,
+        waiting: *mut u64,
+        waiting_len: usize,
+        output: *mut u8,
+        output_len: usize,
+    ) -> usize;
 }
 
 /// The call with an answer slice of this length: what it returns, the answer
@@ -81,4 +95,26 @@ pub fn call(call: &Call, store: &mut Store) -> (Returned, Vec<u64>) {
 pub fn frame_kind_of(line: &[u8]) -> u8 {
     // The pointer and the length are those of the slice.
     unsafe { frame_kind(line.as_ptr(), line.len()) }
+}
+
+/// One step on a line without its LF: the number of bytes of its answer.
+pub fn step(line: &[u8], store: &mut Store, tape: &mut [u32], waiting: &mut [u64], output: &mut [u8]) -> usize {
+    let Store { slots, counts } = store;
+    // Each pointer and the length beside it are those of a slice, and no two slices overlap.
+    unsafe {
+        frame_step(
+            line.as_ptr(),
+            line.len(),
+            slots.as_mut_ptr(),
+            slots.len(),
+            counts.as_mut_ptr(),
+            counts.len(),
+            tape.as_mut_ptr(),
+            tape.len(),
+            waiting.as_mut_ptr(),
+            waiting.len(),
+            output.as_mut_ptr(),
+            output.len(),
+        )
+    }
 }
