@@ -1,2 +1,3 @@
--- What the program holds.
+-- What the program holds, and what its parts come to together.
 pub mod Held
+pub mod AnswerLaws

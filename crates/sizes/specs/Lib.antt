@@ -1,4 +1,4 @@
--- The size rules: definitions, then their laws, capacities, the fit theorem and the starred cases of document 01.
+-- The size rules: definitions, then their laws, capacities and the fit theorem.
 pub mod Sizes
 pub mod SizeLaws
 pub mod Capacity
