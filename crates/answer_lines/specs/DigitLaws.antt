@@ -7,7 +7,7 @@ use native.Mathlib.Nat.{add-zero}
 use native.Mathlib.Numerals.{add-one}
 use lib.ListN.{length, getD, set, take, drop, length-append, length-drop, length-set, take-append-drop, drop-of-length-le}
 use lib.Seq.{length-take-le, take-suc, drop-cons, set-at}
-use Rattle.answer_lines.specs.Reply.{hexDigit, digits, entryDigits, heading, title, encode, lineOf, brief, sheet, leaf}
+use Rattle.answer_lines.specs.Reply.{hexDigit, digits, entryDigits, header, encode, lineOf, brief, sheet, leaf}
 use Rattle.answer_lines.specs.Wrote.{Wrote, DigitsWritten, EntriesWritten}
 use Rattle.answer_lines.specs.WroteLaws.{writing-next, writing-done, writing-room}
 
@@ -24,28 +24,25 @@ length-entries [] = refl
 length-entries (e ∷ list) =
     length-append (digits 16 e) (entryDigits list) ∙ omega (arith, length-digits 16 e, length-entries list)
 
-module _ (kind a b : ℕ) where
-  pub length-heading : length (heading kind a b) ≡ 8
-  unfolding heading
-  length-heading = rw (length-append (digits 2 kind) (digits 2 a ++ digits 4 b), length-append (digits 2 a) (digits 4 b), length-digits 2 kind, length-digits 2 a, length-digits 4 b)
-
-  pub length-title : length (title kind a b) ≡ 10
-  unfolding title
-  length-title = rw (length-append (digits 2 kind) (digits 4 a ++ digits 4 b), length-append (digits 4 a) (digits 4 b), length-digits 2 kind, length-digits 4 a, length-digits 4 b)
+pub length-header : (w kind a b : ℕ) → length (header w kind a b) ≡ 6 + w
+unfolding header
+length-header w kind a b =
+    rw (length-append (digits 2 kind) (digits w a ++ digits 4 b), length-append (digits w a) (digits 4 b), length-digits 2 kind, length-digits w a, length-digits 4 b)
+    (omega arith)
 
 -- The lines whose length is known beforehand.
 pub length-brief : (kind number n : ℕ) → length (lineOf (brief kind number n)) ≡ 9
 unfolding lineOf encode
-length-brief kind number n = length-append (heading kind number n) (10 ∷ []) ∙ rw (length-heading kind number n)
+length-brief kind number n = length-append (header 2 kind number n) (10 ∷ []) ∙ rw (length-header 2 kind number n)
 
 pub length-sheet : (m n : ℕ) → length (lineOf (sheet m n)) ≡ 11
 unfolding lineOf encode
-length-sheet m n = length-append (title 144 m n) (10 ∷ []) ∙ rw (length-title 144 m n)
+length-sheet m n = length-append (header 4 144 m n) (10 ∷ []) ∙ rw (length-header 4 144 m n)
 
 pub length-leaf : (number count : ℕ) (slots : List ℕ) → length (lineOf (leaf number count slots)) ≡ 11 + 16 * length slots
 unfolding lineOf encode
 length-leaf number count slots =
-    rw (length-append (title 145 number count ++ entryDigits slots) (10 ∷ []), length-append (title 145 number count) (entryDigits slots), length-title 145 number count, length-entries slots)
+    rw (length-append (header 4 145 number count ++ entryDigits slots) (10 ∷ []), length-append (header 4 145 number count) (entryDigits slots), length-header 4 145 number count, length-entries slots)
     (omega arith)
 
 -- ---- a number's digits, written from the right

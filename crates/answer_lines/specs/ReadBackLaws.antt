@@ -12,9 +12,9 @@ use Rattle.frame_lines.specs.declared.Frame.{Frame}
 use Rattle.frame_lines.specs.declared.Frame.the-variants.{Insert, Delete, Read, Tape, Print, Clear, Place, NoFrame}
 use Rattle.frame_lines.specs.Frame.{allHex, field, insertOf, deleteOf, readOf, tapeOf, placeOf, ofLength, formOf, frameOf, wordAt}
 use Rattle.frame_lines.specs.FrameLaws.{line-even, length-is, frame-hex}
-use Rattle.answer_lines.specs.Reply.{digits, entryDigits, Reply, brief, entries, placed, sheet, leaf, heading, title, encode}
+use Rattle.answer_lines.specs.Reply.{digits, entryDigits, Reply, brief, entries, placed, sheet, leaf, header, encode}
 use Rattle.answer_lines.specs.ReadBack.{entriesFrom, briefOf, entriesOf, placedOf, sheetOf, leafOf, acceptedOf, replyFor, replyOf, EntriesFit, BriefFits, Writable, wordDigits, operands, frameLine, WordsFit, WritableFrame}
-use Rattle.answer_lines.specs.DigitLaws.{length-digits, length-entries, length-heading, length-title}
+use Rattle.answer_lines.specs.DigitLaws.{length-digits, length-entries, length-header}
 use Rattle.answer_lines.specs.FieldLaws.{hex-append, hex-digits, field-digits, field-behind, field-first, field-last}
 
 -- ---- what a line begins with
@@ -86,53 +86,53 @@ module _ (first cause n : ℕ) where
       ifEq-no first 131 _ _ (λ h. w .refused-read h e) ∙ ifEq-no first 135 _ _ (λ h. w .refused-place h e))
       (λ _. refl)
 
-  brief-back : BriefFits first cause n → replyOf (heading first cause n) ≡ brief first cause n
-  unfolding replyOf briefOf heading front
+  brief-back : BriefFits first cause n → replyOf (header 2 first cause n) ≡ brief first cause n
+  unfolding replyOf briefOf header front
   brief-back w =
-      let line = heading first cause n in
+      let line = header 2 first cause n in
       let f : field line 0 2 ≡ first = first-alone first 2 cause 4 n (w .first-fits) in
       let c : field line 2 2 ≡ cause = second-alone first 2 cause 4 n (w .cause-fits) in
       let k : field line 4 4 ≡ n = third-alone first 2 cause 4 n (w .n-fits) in
       rw (f, c) (brief-form w line ∙ rw (f, c, k))
 
-entries-line : (n : ℕ) (list : List ℕ) → n < 65536 → EntriesFit list → replyOf (heading 131 0 n ++ entryDigits list) ≡ entries n list
-unfolding replyOf replyFor acceptedOf entriesOf heading front ifEq
+entries-line : (n : ℕ) (list : List ℕ) → n < 65536 → EntriesFit list → replyOf (header 2 131 0 n ++ entryDigits list) ≡ entries n list
+unfolding replyOf replyFor acceptedOf entriesOf header front ifEq
 entries-line n list fits all =
     let rest = entryDigits list in
-    ap₂ (λ (f c : ℕ). replyFor f c (heading 131 0 n ++ rest)) (first-back 131 2 0 4 n rest (omega arith)) (second-back 131 2 0 4 n rest (omega arith))
-    ∙ ap₂ entries (third-back 131 2 0 4 n rest fits) (all-back list (heading 131 0 n) 8 (length-heading 131 0 n) all)
+    ap₂ (λ (f c : ℕ). replyFor f c (header 2 131 0 n ++ rest)) (first-back 131 2 0 4 n rest (omega arith)) (second-back 131 2 0 4 n rest (omega arith))
+    ∙ ap₂ entries (third-back 131 2 0 4 n rest fits) (all-back list (header 2 131 0 n) 8 (length-header 2 131 0 n) all)
 
 placed-line : (n place points : ℕ) → n < 65536 → place < 65536 → points < 65536
-    → replyOf (heading 135 0 n ++ (digits 4 place ++ digits 4 points)) ≡ placed n place points
-unfolding replyOf replyFor acceptedOf placedOf heading front ifEq
+    → replyOf (header 2 135 0 n ++ (digits 4 place ++ digits 4 points)) ≡ placed n place points
+unfolding replyOf replyFor acceptedOf placedOf header front ifEq
 placed-line n place points fits place-fits points-fits =
     let rest = digits 4 place ++ digits 4 points in
-    let line = heading 135 0 n ++ rest in
+    let line = header 2 135 0 n ++ rest in
     let n-back : field line 4 4 ≡ n = third-back 135 2 0 4 n rest fits in
     let place-back : field line 8 4 ≡ place =
-    field-digits (heading 135 0 n) (digits 4 points) 8 4 place (length-heading 135 0 n) place-fits in
+    field-digits (header 2 135 0 n) (digits 4 points) 8 4 place (length-header 2 135 0 n) place-fits in
     let points-back : field line 12 4 ≡ points =
-    field-behind (heading 135 0 n) rest 8 4 4 (length-heading 135 0 n) ∙ field-last (digits 4 place) 4 4 points (length-digits 4 place) points-fits in
+    field-behind (header 2 135 0 n) rest 8 4 4 (length-header 2 135 0 n) ∙ field-last (digits 4 place) 4 4 points (length-digits 4 place) points-fits in
     ap₂ (λ (f c : ℕ). replyFor f c line) (first-back 135 2 0 4 n rest (omega arith)) (second-back 135 2 0 4 n rest (omega arith))
     ∙ rw (n-back, place-back, points-back)
 
-sheet-line : (m n : ℕ) → m < 65536 → n < 65536 → replyOf (title 144 m n) ≡ sheet m n
-unfolding replyOf replyFor sheetOf title front ifEq
+sheet-line : (m n : ℕ) → m < 65536 → n < 65536 → replyOf (header 4 144 m n) ≡ sheet m n
+unfolding replyOf replyFor sheetOf header front ifEq
 sheet-line m n m-fits n-fits =
-    let line = title 144 m n in
+    let line = header 4 144 m n in
     ap (λ (f : ℕ). replyFor f (field line 2 2) line) (first-alone 144 4 m 4 n (omega arith))
     ∙ ap₂ sheet (second-alone 144 4 m 4 n m-fits) (third-alone 144 4 m 4 n n-fits)
 
 leaf-line : (number count : ℕ) (slots : List ℕ) → number < 65536 → count < 65536 → EntriesFit slots
-    → replyOf (title 145 number count ++ entryDigits slots) ≡ leaf number count slots
-unfolding replyOf replyFor leafOf title front ifEq
+    → replyOf (header 4 145 number count ++ entryDigits slots) ≡ leaf number count slots
+unfolding replyOf replyFor leafOf header front ifEq
 leaf-line number count slots number-fits count-fits all =
     let rest = entryDigits slots in
-    let line = title 145 number count ++ rest in
+    let line = header 4 145 number count ++ rest in
     let number-back : field line 2 4 ≡ number = second-back 145 4 number 4 count rest number-fits in
     let count-back : field line 6 4 ≡ count = third-back 145 4 number 4 count rest count-fits in
     ap (λ (f : ℕ). replyFor f (field line 2 2) line) (first-back 145 4 number 4 count rest (omega arith))
-    ∙ rw (number-back, count-back, all-back slots (title 145 number count) 10 (length-title 145 number count) all)
+    ∙ rw (number-back, count-back, all-back slots (header 4 145 number count) 10 (length-header 4 145 number count) all)
 
 -- Reading an answer line gives the answer that was written.
 pub reply-back : (reply : Reply) → Writable reply → replyOf (encode reply) ≡ reply

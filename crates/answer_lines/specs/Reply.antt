@@ -27,21 +27,18 @@ pub data Reply : Type 0 where
   sheet : (m n : ℕ) → Reply
   leaf : (number count : ℕ) → List ℕ → Reply
 
--- What every answer begins with: the first byte, the number of the cause in one byte, N in 2 bytes.
-unfoldable pub heading : ℕ → ℕ → ℕ → List ℕ
-heading kind number n = digits 2 kind ++ (digits 2 number ++ digits 4 n)
-
--- What a line of a print begins with: the first byte and two numbers of 2 bytes.
-unfoldable pub title : ℕ → ℕ → ℕ → List ℕ
-title kind a b = digits 2 kind ++ (digits 4 a ++ digits 4 b)
+-- What a line begins with: the first byte, a number of w digits and one of 2 bytes. In an answer these are the number of the cause, in one
+-- byte, and N; in a line of a print both numbers have 2 bytes.
+unfoldable pub header : ℕ → ℕ → ℕ → ℕ → List ℕ
+header w kind a b = digits 2 kind ++ (digits w a ++ digits 4 b)
 
 -- The digits of a line, without its LF: 131 is 83 and 135 is 87 in hexadecimal, 144 is 90, 145 is 91.
 unfoldable pub encode : Reply → List ℕ
-encode (brief kind number n) = heading kind number n
-encode (entries n list) = heading 131 0 n ++ entryDigits list
-encode (placed n place points) = heading 135 0 n ++ (digits 4 place ++ digits 4 points)
-encode (sheet m n) = title 144 m n
-encode (leaf number count slots) = title 145 number count ++ entryDigits slots
+encode (brief kind number n) = header 2 kind number n
+encode (entries n list) = header 2 131 0 n ++ entryDigits list
+encode (placed n place points) = header 2 135 0 n ++ (digits 4 place ++ digits 4 points)
+encode (sheet m n) = header 4 144 m n
+encode (leaf number count slots) = header 4 145 number count ++ entryDigits slots
 
 -- The line, ended by LF.
 unfoldable pub lineOf : Reply → List ℕ

@@ -3,7 +3,7 @@ ghost use mathlib.Core.Path.{_≡_};
 ghost use mathlib.Core.List.{[], _∷_};
 ghost use Prim.Native.Nat.{_+_, _*_, _<_, _≤_};
 ghost use lib.ListN.{length};
-ghost use Rattle.answer_lines.specs.Reply.{hexDigit, digits, entryDigits, heading, title, lineOf, brief, entries, placed, sheet, leaf};
+ghost use Rattle.answer_lines.specs.Reply.{hexDigit, digits, entryDigits, header, lineOf, brief, entries, placed, sheet, leaf};
 ghost use Rattle.answer_lines.specs.Wrote.{Wrote};
 
 // The byte that writes a digit.
@@ -55,23 +55,13 @@ fn put_entries(output: &mut [u8], at: usize, list: &[u64]) -> usize
     next
 }
 
-// What every answer begins with.
-fn put_heading(output: &mut [u8], at: usize, kind: u64, number: u64, n: u64) -> usize
-    requires { ⌜ at + 8 ≤ length (now output) ⌝ }
-    ensures { λ r. ⌜ Wrote (now (output .entry)) at (heading kind number n) (now (output .exit)) r ⌝ }
-{
-    let a = put_digits(output, at, 2, kind);
-    let b = put_digits(output, a, 2, number);
-    put_digits(output, b, 4, n)
-}
-
-// What a line of a print begins with.
-fn put_title(output: &mut [u8], at: usize, kind: u64, a: u64, b: u64) -> usize
-    requires { ⌜ at + 10 ≤ length (now output) ⌝ }
-    ensures { λ r. ⌜ Wrote (now (output .entry)) at (title kind a b) (now (output .exit)) r ⌝ }
+// What a line begins with: the first byte, a number of w digits and one of 2 bytes.
+fn put_header(output: &mut [u8], at: usize, w: usize, kind: u64, a: u64, b: u64) -> usize
+    requires { ⌜ at + (6 + w) ≤ length (now output) ⌝ }
+    ensures { λ r. ⌜ Wrote (now (output .entry)) at (header w kind a b) (now (output .exit)) r ⌝ }
 {
     let p = put_digits(output, at, 2, kind);
-    let q = put_digits(output, p, 4, a);
+    let q = put_digits(output, p, w, a);
     put_digits(output, q, 4, b)
 }
 
@@ -80,7 +70,7 @@ pub fn put_brief(output: &mut [u8], at: usize, kind: u64, number: u64, n: u64) -
     requires { ⌜ at + 9 ≤ length (now output) ⌝ }
     ensures { λ r. ⌜ Wrote (now (output .entry)) at (lineOf (brief kind number n)) (now (output .exit)) r ⌝ }
 {
-    let a = put_heading(output, at, kind, number, n);
+    let a = put_header(output, at, 2, kind, number, n);
     put_end(output, a)
 }
 
@@ -89,7 +79,7 @@ pub fn put_read(output: &mut [u8], at: usize, n: u64, list: &[u64]) -> usize
     requires { ⌜ at + (9 + 16 * length (now list)) ≤ length (now output) ⌝ }
     ensures { λ r. ⌜ Wrote (now (output .entry)) at (lineOf (entries n (now (list .entry)))) (now (output .exit)) r ⌝ }
 {
-    let a = put_heading(output, at, 131, 0, n);
+    let a = put_header(output, at, 2, 131, 0, n);
     let b = put_entries(output, a, list);
     put_end(output, b)
 }
@@ -99,7 +89,7 @@ pub fn put_place(output: &mut [u8], at: usize, n: u64, place: u64, points: u64) 
     requires { ⌜ at + 17 ≤ length (now output) ⌝ }
     ensures { λ r. ⌜ Wrote (now (output .entry)) at (lineOf (placed n place points)) (now (output .exit)) r ⌝ }
 {
-    let a = put_heading(output, at, 135, 0, n);
+    let a = put_header(output, at, 2, 135, 0, n);
     let b = put_digits(output, a, 4, place);
     let c = put_digits(output, b, 4, points);
     put_end(output, c)
@@ -110,7 +100,7 @@ pub fn put_sheet(output: &mut [u8], at: usize, m: u64, n: u64) -> usize
     requires { ⌜ at + 11 ≤ length (now output) ⌝ }
     ensures { λ r. ⌜ Wrote (now (output .entry)) at (lineOf (sheet m n)) (now (output .exit)) r ⌝ }
 {
-    let a = put_title(output, at, 144, m, n);
+    let a = put_header(output, at, 4, 144, m, n);
     put_end(output, a)
 }
 
@@ -119,7 +109,7 @@ pub fn put_leaf(output: &mut [u8], at: usize, number: u64, count: u64, slots: &[
     requires { ⌜ at + (11 + 16 * length (now slots)) ≤ length (now output) ⌝ }
     ensures { λ r. ⌜ Wrote (now (output .entry)) at (lineOf (leaf number count (now (slots .entry)))) (now (output .exit)) r ⌝ }
 {
-    let a = put_title(output, at, 145, number, count);
+    let a = put_header(output, at, 4, 145, number, count);
     let b = put_entries(output, a, slots);
     put_end(output, b)
 }

@@ -2,16 +2,16 @@
 use native.Mathlib.Omega.{arith}
 use borrow.Author.Needs.{needs}
 use Rattle.answer_lines.specs.Reply.{encode, lineOf}
-use Rattle.answer_lines.specs.DigitLaws.{length-heading}
+use Rattle.answer_lines.specs.DigitLaws.{length-header}
 use Rattle.answer_lines.specs.WroteLaws.{wrote-room, wrote-more}
 use Rattle.answer_lines.proofs.put_brief.Statement.{statement}
 use Rattle.answer_lines.proofs.put_brief.Tie as tie
 
-put-heading-requires : tie.Need-put-heading-requires
-put-heading-requires c κs = search needs
+put-header-requires : tie.Need-put-header-requires
+put-header-requires c κs = search needs
 
 put-end-requires : tie.Need-put-end-requires
-put-end-requires c κs = omega (arith, wrote-room (c .before .before .before .put-heading .ensures) 8 1 (length-heading _ _ _) (omega arith))
+put-end-requires c κs = omega (arith, wrote-room (c .before .before .before .put-header .ensures) 8 1 (length-header 2 _ _ _) (omega arith))
 
 same-length : tie.Need-same-length
 same-length c = search needs
@@ -20,7 +20,7 @@ returns : tie.Need-returns
 unfolding lineOf encode
 returns c =
     let last = c .before .before in
-    wrote-more (last .before .before .before .before .put-heading .ensures) (last .put-end .ensures)
+    wrote-more (last .before .before .before .before .put-header .ensures) (last .put-end .ensures)
 
 pub put-brief-spec : {M : Type 1} → statement M
-put-brief-spec = tie.close (tie.spec put-heading-requires put-end-requires same-length returns)
+put-brief-spec = tie.close (tie.spec put-header-requires put-end-requires same-length returns)

@@ -5,16 +5,16 @@ use borrow.Author.Needs.{needs}
 use denote.Ref.{now}
 use lib.ListN.{length}
 use Rattle.answer_lines.specs.Reply.{encode, lineOf}
-use Rattle.answer_lines.specs.DigitLaws.{length-heading, length-entries}
+use Rattle.answer_lines.specs.DigitLaws.{length-header, length-entries}
 use Rattle.answer_lines.specs.WroteLaws.{wrote-room, wrote-more}
 use Rattle.answer_lines.proofs.put_read.Statement.{statement}
 use Rattle.answer_lines.proofs.put_read.Tie as tie
 
-put-heading-requires : tie.Need-put-heading-requires
-put-heading-requires c κs = search needs
+put-header-requires : tie.Need-put-header-requires
+put-header-requires c κs = search needs
 
 put-entries-requires : tie.Need-put-entries-requires
-put-entries-requires c κs = wrote-room (c .before .before .before .put-heading .ensures) 8 _ (length-heading _ _ _) (omega arith)
+put-entries-requires c κs = wrote-room (c .before .before .before .put-header .ensures) 8 _ (length-header 2 _ _ _) (omega arith)
 
 put-end-requires : tie.Need-put-end-requires
 put-end-requires c κs =
@@ -24,7 +24,7 @@ put-end-requires c κs =
     omega (
       arith,
       wrote-room (b .put-entries .ensures) width 1 (length-entries _)
-          (wrote-room (a .put-heading .ensures) 8 (width + 1) (length-heading _ _ _) (omega arith)),
+          (wrote-room (a .put-header .ensures) 8 (width + 1) (length-header 2 _ _ _) (omega arith)),
     )
 
 same-length : tie.Need-same-length
@@ -36,9 +36,9 @@ returns c =
     let third = c .before .before in
     let second = third .before .before .before .before in
     let first = second .before .before .before .before in
-    wrote-more (wrote-more (first .put-heading .ensures) (second .put-entries .ensures)) (third .put-end .ensures)
+    wrote-more (wrote-more (first .put-header .ensures) (second .put-entries .ensures)) (third .put-end .ensures)
 
 pub put-read-spec : {M : Type 1} → statement M
 put-read-spec =
     tie.close
-    (tie.spec put-heading-requires put-entries-requires put-end-requires same-length returns)
+    (tie.spec put-header-requires put-entries-requires put-end-requires same-length returns)
