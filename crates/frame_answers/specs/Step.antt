@@ -6,7 +6,7 @@ use Rattle.base.specs.Cases.{ifEq, ifLt}
 use Rattle.sizes.specs.Sizes.{height, leafSlots}
 use Rattle.layout.specs.Layout.{Store}
 use Rattle.packed_sheet.specs.declared.Returned.{Returned}
-use Rattle.packed_sheet.specs.Call.{Call, clear, insert, delete, read, place, check, returned, clubs}
+use Rattle.packed_sheet.specs.Call.{clear, insert, delete, read, place, check, returned, clubs}
 use Rattle.packed_sheet.specs.Outcome.{Outcome, outcome}
 use Rattle.frame_lines.specs.declared.Frame.{Frame}
 use Rattle.frame_lines.specs.declared.Frame.the-variants.{Insert, Delete, Read, Tape, Print, Clear, Place, NoFrame}

@@ -1,11 +1,11 @@
 -- The starred cases of document 01, "Marks round the course": what each one names by the definitions. Definitions only: they assume nothing.
-use mathlib.Core.List.{List, [], _∷_, _++_, map}
+use mathlib.Core.List.{List, [], _∷_, map}
 use Prim.Native.Nat.{ℕ, _+_, _-_, _*_, _^_}
 use Prim.Native.String.{String}
 use lib.ListN.{replicate}
 use Rattle.draw.specs.declared.Drawn.{Drawn}
 use Rattle.draw.specs.declared.Drawn.the-variants.{Face, Ended}
-use Rattle.draw.specs.Draw.{drawAt}
+use Rattle.draw.specs.Draw.{drawAt, placeAfter}
 use Rattle.shares.specs.Program.{Program, done, draw}
 use Rattle.sizes.specs.Sizes.{digits, height, slots, candidates, windowStart}
 use Rattle.rules.specs.Rules.{SizeStep, kept, anew, deleteSize}
@@ -30,10 +30,6 @@ unfoldable pub face : Drawn → ℕ
 face (Face f next) = f
 face Ended = 0
 
-unfoldable pub next : Drawn → ℕ
-next (Face f n) = n
-next Ended = 0
-
 -- 0 where the size is kept without a draw, 1 where it is set without one.
 unfoldable pub among : Program SizeStep → ℕ
 among (done kept) = 0
@@ -50,7 +46,7 @@ byRules (candidatesOf M d) = candidates M d
 byRules (firstOf n c) = 1 + windowStart n c
 byRules (lastOf n c) = windowStart n c + c
 byRules (faceOf m words) = face (drawAt m words 0)
-byRules (wordsOf m words) = next (drawAt m words 0)
+byRules (wordsOf m words) = placeAfter 0 (drawAt m words 0)
 byRules (deleteAmong N M) = among (deleteSize N M)
 
 -- The program as it starts: a cleared sheet, and no word waits.

@@ -1,5 +1,5 @@
 -- Lines of text as bytes. Definitions only: they assume nothing.
-use mathlib.Core.List.{List, [] as []ᴸ, _∷_ as _∷ᴸ_, _++_, map}
+use mathlib.Core.List.{List, [] as []ᴸ, _∷_ as _∷ᴸ_, _++_}
 use Prim.Native.Nat.{ℕ}
 use Prim.Native.Char.{code}
 use Prim.Native.String.{String, [], _∷_}

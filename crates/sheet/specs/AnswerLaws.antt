@@ -9,7 +9,7 @@ use Rattle.frame_lines.specs.CutLaws.{cut-same}
 use Rattle.line_input.specs.Lines.{linesOf}
 use Rattle.line_input.specs.Chunks.{joined, linesOver}
 use Rattle.line_input.specs.LineLaws.{lines-cut}
-use Rattle.frame_answers.specs.Step.{Kept, Answered, answerTo, answersTo}
+use Rattle.frame_answers.specs.Step.{Kept, answerTo, answersTo}
 
 -- The front of a line, its first 256 bytes, is answered as the line is.
 cut-answer : (line : List ℕ) (k : Kept) → answerTo (frameOf (take 256 line)) (take 256 line) k ≡ answerTo (frameOf line) line k

@@ -1,8 +1,6 @@
 -- `put_digits` meets its contract. The loop's invariant: all but the first `left` digits are written, and `rest` is the number without them.
 -- Assumes nothing.
-use Prim.Native.Nat.{_%_}
 use native.Mathlib.Omega.{arith}
-use native.Mathlib.Nat.{mod-lt}
 use borrow.Author.Needs.{needs}
 use Rattle.answer_lines.specs.Wrote.{DigitsWritten}
 use Rattle.answer_lines.specs.DigitLaws.{digits-start, digits-next, digits-done}

@@ -1,9 +1,7 @@
 -- `delete_line` meets its contract. Assumes nothing.
 use borrow.Author.Needs.{needs}
 use mathlib.Core.Path.{sym, refl}
-use native.Mathlib.Omega.{arith}
 use lib.Seq.{length-take-le}
-use denote.Ref.{now}
 use Rattle.packed_sheet.specs.Call.{returned, delete}
 use Rattle.packed_sheet.specs.Outcome.{answerOf}
 use Rattle.frame_answers.specs.StepLaws.{changed-gives, words-waiting}
