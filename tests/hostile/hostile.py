@@ -134,7 +134,7 @@ def empty_lines():
 
 
 def random_bytes():
-    right(rng.randbytes(3_000_000))
+    right(rng.randbytes(4_000_000))
 
 
 def long_lines():
