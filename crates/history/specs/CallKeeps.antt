@@ -28,10 +28,10 @@ use Rattle.layout.specs.Layout.{Capacity, Store, layOut}
 use Rattle.layout.specs.Sheet.{IsContents, decode}
 use Rattle.layout.specs.Room.{Roomy}
 use Rattle.layout.specs.SheetLaws.{decode-complete, length-slots, length-counts}
-use Rattle.packed_sheet.specs.declared.Cause.{Cause}
-use Rattle.packed_sheet.specs.Call.{Call, clear, insert, delete, read, place, check, listAfter}
-use Rattle.packed_sheet.specs.Causes.{refuse, accept, firstOf, lengthsWrong, contentsFor, argumentCause, byArguments, byContents, decision}
-use Rattle.packed_sheet.specs.Outcome.{changed, effect, callProgramBy, callProgram}
+use Rattle.outcomes.specs.declared.Cause.{Cause}
+use Rattle.outcomes.specs.Call.{Call, clear, insert, delete, read, place, check, listAfter}
+use Rattle.outcomes.specs.Causes.{refuse, accept, firstOf, lengthsWrong, contentsFor, argumentCause, byArguments, byContents, decision}
+use Rattle.outcomes.specs.Outcome.{changed, effect, callProgramBy, callProgram}
 use Rattle.history.specs.History.{nextList, refusalOf}
 
 -- The sheets of a list, canonically distributed.

@@ -9,8 +9,8 @@ use Rattle.shares.specs.CourseLaws.{follows-unique}
 use Rattle.rules.specs.Tree.{Shape, IsShape}
 use Rattle.canonical.specs.ShapeShare.{shapeProduct}
 use Rattle.layout.specs.Layout.{Store, layOut}
-use Rattle.packed_sheet.specs.Call.{Call, clear, clubs}
-use Rattle.packed_sheet.specs.OpeningLaws.{clubs-roomy}
+use Rattle.outcomes.specs.Call.{Call, clear, clubs}
+use Rattle.outcomes.specs.ClubsLaws.{clubs-roomy}
 use Rattle.history.specs.History.{history, RightLengths, listAtEnd, equalStores, SameTable, Sent, lastStore, NoneEnds, facesSent, callsOf}
 use Rattle.history.specs.Words.{words-decide}
 use Rattle.history.specs.Independence.{history-independent}

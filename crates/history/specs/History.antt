@@ -12,12 +12,12 @@ use Rattle.shares.specs.Tape.{facesOn}
 use Rattle.shares.specs.Fraction.{_≐_}
 use Rattle.shares.specs.Course.{share}
 use Rattle.layout.specs.Layout.{Capacity, Store}
-use Rattle.packed_sheet.specs.declared.Cause.{Cause}
-use Rattle.packed_sheet.specs.declared.Cause.the-variants.{TapeEnded}
-use Rattle.packed_sheet.specs.declared.Answer.the-variants.{Refused}
-use Rattle.packed_sheet.specs.Call.{Call, clear, listAfter}
-use Rattle.packed_sheet.specs.Causes.{argumentCause, Decision, refuse, accept}
-use Rattle.packed_sheet.specs.Outcome.{outcome, callProgram}
+use Rattle.outcomes.specs.declared.Cause.{Cause}
+use Rattle.outcomes.specs.declared.Cause.the-variants.{TapeEnded}
+use Rattle.outcomes.specs.declared.Answer.the-variants.{Refused}
+use Rattle.outcomes.specs.Call.{Call, clear, listAfter}
+use Rattle.outcomes.specs.Causes.{argumentCause, Decision, refuse, accept}
+use Rattle.outcomes.specs.Outcome.{outcome, callProgram}
 
 -- ---- histories
 

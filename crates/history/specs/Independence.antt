@@ -24,9 +24,9 @@ use Rattle.layout.specs.Layout.{Capacity, Store, layOut}
 use Rattle.layout.specs.Sheet.{IsContents}
 use Rattle.layout.specs.Room.{Roomy}
 use Rattle.layout.specs.SheetLaws.{layOut-injective}
-use Rattle.packed_sheet.specs.Call.{Call, clear}
-use Rattle.packed_sheet.specs.Causes.{lengthsWrong, contentsFor, argumentCause, byArguments, byContents, decision}
-use Rattle.packed_sheet.specs.Outcome.{effect, callProgramBy, callProgram}
+use Rattle.outcomes.specs.Call.{Call, clear}
+use Rattle.outcomes.specs.Causes.{lengthsWrong, contentsFor, argumentCause, byArguments, byContents, decision}
+use Rattle.outcomes.specs.Outcome.{effect, callProgramBy, callProgram}
 use Rattle.history.specs.History.{runCalls, history, RightLengths, nextList, finalList, listAtEnd, equalStores, SameTable}
 use Rattle.history.specs.CallKeeps.{sheetsOf, IsList, next-list, empty-sheets, call-keeps}
 

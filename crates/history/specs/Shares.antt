@@ -24,8 +24,8 @@ use Rattle.layout.specs.Layout.{Capacity, Store, layOut}
 use Rattle.layout.specs.Sheet.{IsContents}
 use Rattle.layout.specs.Room.{Roomy}
 use Rattle.layout.specs.SheetLaws.{layOut-injective}
-use Rattle.packed_sheet.specs.Call.{Call}
-use Rattle.packed_sheet.specs.Causes.{argumentCause, decision}
+use Rattle.outcomes.specs.Call.{Call}
+use Rattle.outcomes.specs.Causes.{argumentCause, decision}
 use Rattle.history.specs.History.{history, RightLengths, listAtEnd, refusalOf, equalStores}
 use Rattle.history.specs.CallKeeps.{sheetsOf, IsList, sheet-refusal}
 use Rattle.history.specs.Independence.{SheetOf, stores-test, end-list, history-sheets, sheets-end, sheets-live}

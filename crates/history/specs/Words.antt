@@ -10,11 +10,11 @@ use Rattle.shares.specs.TapeLaws.{run-done, run-follows}
 use Rattle.shares.specs.Course.{Follows}
 use Rattle.shares.specs.CourseLaws.{follows-bind}
 use Rattle.layout.specs.Layout.{Capacity, Store}
-use Rattle.packed_sheet.specs.declared.Cause.the-variants.{TapeEnded}
-use Rattle.packed_sheet.specs.declared.Answer.the-variants.{Refused}
-use Rattle.packed_sheet.specs.Call.{Call}
-use Rattle.packed_sheet.specs.Causes.{Decision, refuse, accept, decision}
-use Rattle.packed_sheet.specs.Outcome.{refused, finished, effect, outcomeBy, outcome, callProgramBy, callProgram}
+use Rattle.outcomes.specs.declared.Cause.the-variants.{TapeEnded}
+use Rattle.outcomes.specs.declared.Answer.the-variants.{Refused}
+use Rattle.outcomes.specs.Call.{Call}
+use Rattle.outcomes.specs.Causes.{Decision, refuse, accept, decision}
+use Rattle.outcomes.specs.Outcome.{refused, finished, effect, outcomeBy, outcome, callProgramBy, callProgram}
 use Rattle.history.specs.History.{runCalls, Sent, storeAfter, lastStore, NoneEnds, facesSent, callsOf}
 
 -- One call: its program run on its tape ends with the store of its outcome, unless it returns 7.

@@ -1,35 +1,39 @@
--- What each call comes to, by what its store is found to hold: the laws that the code's proofs cite. Assumes nothing.
+-- What each call that looks at the store comes to, by what is left of the look: the laws that the code's proofs cite. Assumes nothing.
 use mathlib.Core.Path.{_≡_, refl, sym, _∙_, ap}
-use mathlib.Core.Bool.{Bool, true, false, _||_, or-true}
-use mathlib.Core.Logic.{_≢_}
+use mathlib.Core.Bool.{Bool, true, false, _||_}
 use mathlib.Core.List.{List, [], _++_}
 use mathlib.Core.Option.{some, none}
 use Prim.Native.Nat.{ℕ, _+_, _-_, _≤_, _<_}
 use native.Mathlib.Omega.{arith}
 use native.Mathlib.Numerals.{add-one}
-use borrow.Author.Tests.{lt-ltb, le-ltb, le-leb, lt-leb, eq-eqb, ne-eqb}
-use lib.Dec.{leb, ltb}
+use borrow.Author.Tests.{ltb-false, leb-false}
+use lib.Dec.{eqb, leb, ltb}
 use lib.ListN.{length, take, drop, length-drop}
 use lib.Seq.{length-take-le}
-use Rattle.shares.specs.Tape.{runAt}
+use Rattle.shares.specs.Program.{done}
+use Rattle.shares.specs.Tape.{Ran, ran, ended, runAt, afterRun}
+use Rattle.shares.specs.TapeLaws.{run-bind}
+use Rattle.rules.specs.declared.Change.{Change}
 use Rattle.rules.specs.declared.Change.the-variants.{Insert, Delete}
+use Rattle.rules.specs.Tree.{Shape}
 use Rattle.rules.specs.Compare.{countAfter}
-use Rattle.rules.specs.Rules.{InReach}
-use Rattle.layout.specs.Layout.{Capacity, Store}
-use Rattle.layout.specs.SheetLaws.{decode-sound}
-use Rattle.part_layout.specs.ChangeList.{changeList}
+use Rattle.rules.specs.Rules.{InReach, update}
+use Rattle.layout.specs.Layout.{Capacity, Store, layOut}
 use Rattle.layout.specs.Leaf.{nonzero}
 use Rattle.layout.specs.Sheet.{Contents, listOf, shapeOf, sheetTest, decode}
-use Rattle.packed_sheet.specs.declared.Cause.{Cause}
-use Rattle.packed_sheet.specs.declared.Cause.the-variants.{EntryZero, Rank, Full, OutputShort}
-use Rattle.packed_sheet.specs.declared.Answer.the-variants.{Changed, Checked, Placed, Refused, Entries}
-use Rattle.packed_sheet.specs.declared.Opened.{Opened}
-use Rattle.packed_sheet.specs.declared.Opened.the-variants as opened
-use Rattle.packed_sheet.specs.Call.{Call, insert, delete, read, place, check, listAfter}
-use Rattle.packed_sheet.specs.Causes.{firstOf, contentsFor, argumentCause}
-use Rattle.packed_sheet.specs.Outcome.{Outcome, refused, effect, answerOf, entriesOf, finished, outcome}
-use Rattle.packed_sheet.specs.Opening.{storeOf, left, Opening, Changeable, ChangedAs}
-use Rattle.packed_sheet.specs.OutcomeLaws.{outcome-argument, outcome-runs, SheetFound, opened-sheet, opened-refused, changed-outcome}
+use Rattle.part_layout.specs.ChangeList.{changeList}
+use Rattle.outcomes.specs.declared.Cause.{Cause}
+use Rattle.outcomes.specs.declared.Cause.the-variants.{EntryZero, Rank, Full, OutputShort}
+use Rattle.outcomes.specs.declared.Answer.the-variants.{Changed, Checked, Placed, Refused, Entries}
+use Rattle.outcomes.specs.Call.{Call, changing, insert, delete, read, place, check, listAfter}
+use Rattle.outcomes.specs.Causes.{firstOf, contentsFor, argumentCause}
+use Rattle.outcomes.specs.Outcome.{Outcome, storeOf, left, refused, changed, effect, answerOf, entriesOf, finished, outcome}
+use Rattle.outcomes.specs.AnswerLaws.{first-not}
+use Rattle.opening.specs.declared.Opened.{Opened}
+use Rattle.opening.specs.declared.Opened.the-variants as opened
+use Rattle.opening.specs.Opening.{openedAs, Opening, admitted}
+use Rattle.opening.specs.AdmittedLaws.{Admitted, admitted-sheet, admitted-refused, admitted-runs, entries-most}
+use Rattle.sheet_change.specs.SheetChange.{changeBy, changeOf, Changeable, ChangedAs}
 
 -- The list of a sheet is what stands in its slots.
 decoded-list : (cap : Capacity) (store : Store) (c : Contents) → decode cap store ≡ some c → c .list ≡ nonzero (store .slots)
@@ -40,159 +44,130 @@ decoded-list cap store c h = go (sheetTest cap store) h
     go true h = let same : record { list = listOf store; shape = shapeOf store } ≡ c = cc in sym (ap (λ (x : Contents). x .list) same)
     go false h = let z : _≡_ {A = ℕ} 0 1 = cc in absurd (omega arith)
 
+-- None of three tests holds.
+none-of : (a b c : Bool) → (a || b || c) ≡ false → (a ≡ false) × (b ≡ false) × (c ≡ false)
+none-of false false false e = (refl, refl, refl)
+none-of false false true e = let z : _≡_ {A = ℕ} 0 1 = cc in absurd (omega arith)
+none-of false true c e = let z : _≡_ {A = ℕ} 0 1 = cc in absurd (omega arith)
+none-of true b c e = let z : _≡_ {A = ℕ} 0 1 = cc in absurd (omega arith)
+
+-- The outcome of a change is that of its call.
+changed-outcome : (cap : Capacity) (change : Change) (e : ℕ) (call : Call) (c : Contents) (tape : List ℕ) (store : Store)
+    → listAfter call (c .list) ≡ changeList change e (c .list)
+    → ((words : ℕ) → answerOf call (c .list) words ≡ Changed (countAfter change (length (c .list))) words)
+    → entriesOf call (c .list) ≡ []
+    → finished call (c .list) store [] (runAt (changed cap change call c) tape 0) ≡ changeOf cap change e tape c store
+unfolding changed changeOf changeBy finished afterRun runAt
+changed-outcome cap change e call c tape store l a n =
+    rw (run-bind (update change (length (c .list)) (c .shape)) (λ shape. done (layOut cap (listAfter call (c .list)) shape)) tape 0)
+    (go (runAt (update change (length (c .list)) (c .shape)) tape 0))
+  where
+    go : (r : Ran Shape)
+        → finished call (c .list) store [] (afterRun r (λ shape words. runAt (done (layOut cap (listAfter call (c .list)) shape)) tape words))
+        ≡ changeBy cap change e (c .list) store r
+    go (ran shape words) = rw (l, a words, n)
+    go ended = refl
+
 module _ (cap : Capacity) (slots counts : List ℕ) where
   abbrev store : Store
   store = storeOf slots counts
 
-  -- ---- by the look at the store
+  -- ---- by what is left of the look at the store
 
-  pub found : (answer : Opened) (work : List ℕ) (n m : ℕ) → Opening cap store answer work → answer ≡ opened.Sheet n m → SheetFound cap store n m
-  found answer work n m w e = opened-sheet cap store n m (sym (w .found) ∙ e)
+  module _ (call : Call) {answer after : Opened} {work : List ℕ} (w : Opening cap store answer work) (is : after ≡ admitted cap call answer) where
+    by-store : admitted cap call (openedAs cap store) ≡ after
+    by-store = ap (admitted cap call) (sym (w .found)) ∙ sym is
 
-  pub refused-before : (call : Call) (tape output : List ℕ) (answer : Opened) (work : List ℕ) (cause : Cause)
-      → contentsFor cap call store ≡ decode cap store → Opening cap store answer work → answer ≡ opened.Refused cause
-      → left (Refused cause) slots counts output ≡ outcome cap call tape store output
-  unfolding refused
-  refused-before call tape output answer work cause looks w e = sym (opened-refused cap store call tape output cause looks (sym (w .found) ∙ e))
+    pub call-admitted : {n m : ℕ} → after ≡ opened.Sheet n m → Admitted cap call store n m
+    call-admitted {n} {m} e = admitted-sheet cap call store n m (by-store ∙ e)
 
-  module _ {n m : ℕ} (w : SheetFound cap store n m) where
-    -- ---- by the arguments
-
-    refused-by : (call : Call) (tape output : List ℕ) (cause : Cause) → contentsFor cap call store ≡ decode cap store
-        → argumentCause cap call n ≡ some cause → left (Refused cause) slots counts output ≡ outcome cap call tape store output
+    pub call-refused : (tape output : List ℕ) {cause : Cause} → contentsFor cap call store ≡ decode cap store → after ≡ opened.Refused cause
+        → left (Refused cause) slots counts output ≡ outcome cap call tape store output
     unfolding refused
-    refused-by call tape output cause looks h =
-        sym (outcome-argument cap call tape store output (w .right) (w .contents) (looks ∙ w .decoded) cause (rw (w .count) h))
+    call-refused tape output {cause} looks e = sym (admitted-refused cap call store looks tape output cause (by-store ∙ e))
 
-    runs : (call : Call) (tape output : List ℕ) → contentsFor cap call store ≡ decode cap store → argumentCause cap call n ≡ none
-        → outcome cap call tape store output ≡ finished call (w .contents .list) store output (runAt (effect cap call (w .contents) store) tape 0)
-    runs call tape output looks h = outcome-runs cap call tape store output (w .right) (w .contents) (looks ∙ w .decoded) (rw (w .count) h)
+  -- an insert and a delete look at the store
+  pub looks-change : (change : Change) (e : ℕ) → contentsFor cap (changing change e) store ≡ decode cap store
+  unfolding contentsFor
+  looks-change (Insert i) e = refl
+  looks-change (Delete i) e = refl
 
+  module _ {n m : ℕ} where
     -- ---- check
 
-    pub check-done : left (Checked n) slots counts [] ≡ outcome cap check [] store []
-    unfolding contentsFor argumentCause finished effect runAt answerOf entriesOf
-    check-done = sym (runs check [] [] refl refl ∙ rw (w .count))
+    pub check-done : Admitted cap check store n m → left (Checked n) slots counts [] ≡ outcome cap check [] store []
+    unfolding contentsFor finished effect runAt answerOf entriesOf
+    check-done w = sym (admitted-runs cap check store refl [] [] w ∙ rw (w .count))
 
     -- ---- place
 
-    pub place-refused : (i : ℕ) → n ≤ i → left (Refused Rank) slots counts [] ≡ outcome cap (place i) [] store []
-    unfolding contentsFor argumentCause firstOf
-    place-refused i h = refused-by (place i) [] [] Rank refl (rw (le-leb n i h))
+    module _ (i : ℕ) (w : Admitted cap (place i) store n m) where
+      pub place-within : i < cap .entries
+      unfolding argumentCause
+      place-within = omega (arith, leb-false n i (first-not (leb n i) Rank none (w .free) .0), entries-most cap (place i) store w)
 
-    pub place-done : (i : ℕ) → i < n → left (Placed (i + 1) (i + 1)) slots counts [] ≡ outcome cap (place i) [] store []
-    unfolding contentsFor argumentCause firstOf finished effect runAt answerOf entriesOf
-    place-done i h = sym (runs (place i) [] [] refl (rw (lt-leb n i h)))
+      pub place-done : left (Placed (i + 1) (i + 1)) slots counts [] ≡ outcome cap (place i) [] store []
+      unfolding contentsFor finished effect runAt answerOf entriesOf
+      place-done = sym (admitted-runs cap (place i) store refl [] [] w)
 
     -- ---- read
 
-    module _ (first last : ℕ) (output : List ℕ) where
-      abbrev reading : Call
-      reading = read first last (length output)
+    module _ (first last room : ℕ) (w : Admitted cap (read first last room) store n m) where
+      pub read-within : (first ≤ last) × (last < n) × (last - first + 1 ≤ room)
+      unfolding argumentCause
+      read-within =
+          let count = last - first + 1 in
+          let ranks = first-not (leb n first || leb n last || ltb last first) Rank (firstOf (ltb room count) OutputShort none) (w .free) in
+          let each = none-of (leb n first) (leb n last) (ltb last first) (ranks .0) in
+          (ltb-false last first (each .2), leb-false n last (each .1), ltb-false room count (first-not (ltb room count) OutputShort none (ranks .1) .0))
 
-      read-out-of : (leb n first || leb n last || ltb last first) ≡ true → left (Refused Rank) slots counts output ≡ outcome cap reading [] store output
-      unfolding contentsFor argumentCause firstOf
-      read-out-of h = refused-by reading [] output Rank refl (rw h)
+      -- the entries that can be read are there
+      pub read-room : first + (last - first + 1) ≤ length (nonzero slots)
+      read-room = omega (arith, w .count, read-within .0, read-within .1, ap length (decoded-list cap store (w .contents) (w .decoded)))
 
-      pub read-first : n ≤ first → left (Refused Rank) slots counts output ≡ outcome cap reading [] store output
-      read-first h = read-out-of (rw (le-leb n first h))
+    pub read-done : (first last : ℕ) (output : List ℕ) (w : Admitted cap (read first last (length output)) store n m)
+        → left (Entries (last - first + 1)) slots counts (take (last - first + 1) (drop first (nonzero slots)) ++ drop (last - first + 1) output)
+        ≡ outcome cap (read first last (length output)) [] store output
+    unfolding contentsFor finished effect runAt answerOf entriesOf
+    read-done first last output w =
+        let count = last - first + 1 in
+        let list = decoded-list cap store (w .contents) (w .decoded) in
+        let size : length (take count (drop first (nonzero slots))) ≡ count
+        = length-take-le count (drop first (nonzero slots)) (omega (arith, length-drop first (nonzero slots), read-room first last (length output) w)) in
+        sym (admitted-runs cap (read first last (length output)) store refl [] output w ∙ rw (list, size))
 
-      pub read-last : n ≤ last → left (Refused Rank) slots counts output ≡ outcome cap reading [] store output
-      read-last h = read-out-of (rw (le-leb n last h, or-true (leb n first)))
+    -- ---- insert and delete
 
-      pub read-order : last < first → left (Refused Rank) slots counts output ≡ outcome cap reading [] store output
-      read-order h = read-out-of (rw (lt-ltb last first h, or-true (leb n first || leb n last)))
+    pub change-ready : (change : Change) (e : ℕ) {work : List ℕ} → Admitted cap (changing change e) store n m → work ≡ counts
+        → Changeable cap change n m store work
+    unfolding argumentCause InReach countAfter
+    change-ready change e w copied = record {
+      contents = w .contents;
+      decoded = w .decoded;
+      count = w .count;
+      size = w .size;
+      copied = copied;
+      reach = within change (w .free) .0;
+      room = within change (w .free) .1;
+    }
+      where
+        within : (k : Change) → argumentCause cap (changing k e) n ≡ none → InReach k n × (countAfter k n ≤ cap .entries)
+        within (Insert i) free =
+            let later = first-not (eqb e 0) EntryZero (firstOf (ltb n i) Rank (firstOf (leb (cap .entries) n) Full none)) free .1 in
+            let ranks = first-not (ltb n i) Rank (firstOf (leb (cap .entries) n) Full none) later in
+            (ltb-false n i (ranks .0), leb-false (cap .entries) n (first-not (leb (cap .entries) n) Full none (ranks .1) .0))
+        within (Delete i) free = (leb-false n i (first-not (leb n i) Rank none free .0), omega (arith, entries-most cap (changing change e) store w))
 
-      module _ (a : first < n) (b : last < n) (o : first ≤ last) where
-        pub read-short : length output < last - first + 1 → left (Refused OutputShort) slots counts output ≡ outcome cap reading [] store output
-        unfolding contentsFor argumentCause firstOf
-        read-short h =
-            refused-by reading [] output OutputShort refl
-            (rw (lt-leb n first a, lt-leb n last b, le-ltb last first o, lt-ltb (length output) (last - first + 1) h))
-
-        -- the entries that can be read are there
-        pub read-room : first + (last - first + 1) ≤ length (nonzero slots)
-        read-room = omega (arith, w .count, ap length (decoded-list cap store (w .contents) (w .decoded)))
-
-        pub read-done : last - first + 1 ≤ length output
-            → left (Entries (last - first + 1)) slots counts (take (last - first + 1) (drop first (nonzero slots)) ++ drop (last - first + 1) output)
-            ≡ outcome cap reading [] store output
-        unfolding contentsFor argumentCause firstOf finished effect runAt answerOf entriesOf
-        read-done h =
-            let list = decoded-list cap store (w .contents) (w .decoded) in
-            let size : length (take (last - first + 1) (drop first (nonzero slots))) ≡ last - first + 1
-            = length-take-le (last - first + 1) (drop first (nonzero slots)) (omega (arith, length-drop first (nonzero slots), read-room)) in
-            sym
-            (runs reading [] output refl
-            (rw (lt-leb n first a, lt-leb n last b, le-ltb last first o, le-ltb (length output) (last - first + 1) h))
-            ∙ rw (list, size))
-
-    -- ---- insert
-
-    module _ (i e : ℕ) (tape : List ℕ) where
-      pub insert-zero : e ≡ 0 → left (Refused EntryZero) slots counts [] ≡ outcome cap (insert i e) tape store []
-      unfolding contentsFor argumentCause firstOf
-      insert-zero h = refused-by (insert i e) tape [] EntryZero refl (rw (eq-eqb e 0 h))
-
-      module _ (entry : e ≢ 0) where
-        pub insert-rank : n < i → left (Refused Rank) slots counts [] ≡ outcome cap (insert i e) tape store []
-        unfolding contentsFor argumentCause firstOf
-        insert-rank h = refused-by (insert i e) tape [] Rank refl (rw (ne-eqb e 0 entry, lt-ltb n i h))
-
-        module _ (rank : i ≤ n) where
-          pub insert-full : cap .entries ≤ n → left (Refused Full) slots counts [] ≡ outcome cap (insert i e) tape store []
-          unfolding contentsFor argumentCause firstOf
-          insert-full h = refused-by (insert i e) tape [] Full refl (rw (ne-eqb e 0 entry, le-ltb n i rank, le-leb (cap .entries) n h))
-
-          module _ (room : n < cap .entries) (work : List ℕ) (copied : work ≡ counts) where
-            pub insert-ready : Changeable cap (Insert i) n m store work
-            unfolding InReach countAfter
-            insert-ready = record {
-              contents = w .contents;
-              decoded = w .decoded;
-              count = w .count;
-              size = w .size;
-              copied = copied;
-              reach = rank;
-              room = room;
-            }
-
-            pub insert-done : (o : Outcome) → ChangedAs cap (Insert i) e tape store o → o ≡ outcome cap (insert i e) tape store []
-            unfolding ChangedAs contentsFor argumentCause firstOf effect listAfter changeList answerOf entriesOf countAfter
-            insert-done o h =
-                h (w .contents) (w .decoded)
-                ∙ sym
-                (runs (insert i e) tape [] refl (rw (ne-eqb e 0 entry, le-ltb n i rank, lt-leb (cap .entries) n room))
-                ∙ changed-outcome cap (Insert i) e (insert i e) (w .contents) tape store refl (λ words. ap (λ (k : ℕ). Changed k words) (add-one (length (w .contents .list)))) refl)
-
-    -- ---- delete
-
-    module _ (i : ℕ) (tape : List ℕ) where
-      pub delete-rank : n ≤ i → left (Refused Rank) slots counts [] ≡ outcome cap (delete i) tape store []
-      unfolding contentsFor argumentCause firstOf
-      delete-rank h = refused-by (delete i) tape [] Rank refl (rw (le-leb n i h))
-
-      module _ (rank : i < n) (work : List ℕ) (copied : work ≡ counts) where
-        pub delete-ready : n ≤ cap .entries → Changeable cap (Delete i) n m store work
-        unfolding InReach countAfter
-        delete-ready few = record {
-          contents = w .contents;
-          decoded = w .decoded;
-          count = w .count;
-          size = w .size;
-          copied = copied;
-          reach = rank;
-          room = omega arith;
-        }
-
-        pub delete-done : (o : Outcome) → ChangedAs cap (Delete i) 0 tape store o → o ≡ outcome cap (delete i) tape store []
-        unfolding ChangedAs contentsFor argumentCause firstOf effect listAfter changeList answerOf entriesOf countAfter
-        delete-done o h =
-            h (w .contents) (w .decoded)
-            ∙ sym
-            (runs (delete i) tape [] refl (rw (lt-leb n i rank))
-            ∙ changed-outcome cap (Delete i) 0 (delete i) (w .contents) tape store refl (λ words. refl) refl)
-
-    -- a sheet has no more entries than the store has room for
-    pub entries-most : n ≤ cap .entries
-    entries-most = omega (arith, w .count, decode-sound cap store (w .contents) (w .decoded) .0 .room)
+    pub change-done : (change : Change) (e : ℕ) (tape : List ℕ) (w : Admitted cap (changing change e) store n m) (o : Outcome)
+        → ChangedAs cap change e tape store o → o ≡ outcome cap (changing change e) tape store []
+    unfolding ChangedAs contentsFor effect listAfter changeList answerOf entriesOf countAfter
+    change-done (Insert i) e tape w o h =
+        h (w .contents) (w .decoded)
+        ∙ sym
+        (admitted-runs cap (insert i e) store refl tape [] w
+        ∙ changed-outcome cap (Insert i) e (insert i e) (w .contents) tape store refl (λ words. ap (λ (k : ℕ). Changed k words) (add-one (length (w .contents .list)))) refl)
+    change-done (Delete i) e tape w o h =
+        h (w .contents) (w .decoded)
+        ∙ sym
+        (admitted-runs cap (delete i) store refl tape [] w
+        ∙ changed-outcome cap (Delete i) e (delete i) (w .contents) tape store refl (λ words. refl) refl)

@@ -15,14 +15,13 @@ use Rattle.rules.specs.Tree.{leaf}
 use Rattle.rank_tree.specs.Counts.{writeTree, shapeCounts}
 use Rattle.layout.specs.Leaf.{place, spread}
 use Rattle.layout.specs.Layout.{Store, leafCounts, layLeaves, padTo, countOrder, laySlots, layCounts, layOut}
-use Rattle.packed_sheet.specs.declared.Answer.the-variants.{Cleared, Refused}
-use Rattle.packed_sheet.specs.declared.Cause.the-variants.{Lengths}
-use Rattle.packed_sheet.specs.Call.{clear, clubs}
-use Rattle.packed_sheet.specs.Causes.{lengthsWrong, contentsFor, argumentCause}
-use Rattle.packed_sheet.specs.Outcome.{refused, effect, answerOf, entriesOf, finished, outcome}
-use Rattle.packed_sheet.specs.Opening.{storeOf, left}
-use Rattle.packed_sheet.specs.OutcomeLaws.{outcome-lengths, outcome-runs}
-use Rattle.packed_sheet.specs.OpeningLaws.{lengths-right}
+use Rattle.outcomes.specs.declared.Answer.the-variants.{Cleared, Refused}
+use Rattle.outcomes.specs.declared.Cause.the-variants.{Lengths}
+use Rattle.outcomes.specs.Call.{clear, clubs}
+use Rattle.outcomes.specs.Causes.{lengthsWrong, contentsFor, argumentCause}
+use Rattle.outcomes.specs.Outcome.{storeOf, left, refused, effect, answerOf, entriesOf, finished, outcome}
+use Rattle.outcomes.specs.OutcomeLaws.{outcome-lengths, outcome-runs}
+use Rattle.opening.specs.OpeningLaws.{lengths-right}
 
 empty-zeros : layOut clubs [] (record { size = 0; tree = leaf }) ≡ record { slots = replicate 4224 0; counts = replicate 256 0 }
 unfolding layOut laySlots layCounts countOrder shapeCounts writeTree padTo layLeaves leafCounts spread place leafSlots height ifLe

@@ -5,9 +5,9 @@ use Prim.Native.Nat.{ℕ}
 use lib.ListN.{length, set}
 use Rattle.base.specs.Cases.{ifLt}
 use Rattle.layout.specs.Layout.{Store}
-use Rattle.packed_sheet.specs.declared.Returned.{Returned}
-use Rattle.packed_sheet.specs.Call.{Call, returned, clubs}
-use Rattle.packed_sheet.specs.Outcome.{Outcome, outcome}
+use Rattle.outcomes.specs.declared.Returned.{Returned}
+use Rattle.outcomes.specs.Call.{Call, returned, clubs}
+use Rattle.outcomes.specs.Outcome.{Outcome, outcome}
 
 pub record Handed : Type 0 where
   pub number : ℕ

@@ -4,11 +4,10 @@ use mathlib.Core.List.{List}
 use Prim.Native.Nat.{ℕ, _≤_, _<_}
 use lib.ListN.{length}
 use Rattle.base.specs.CaseLaws.{ifLt-yes, ifLt-no}
-use Rattle.packed_sheet.specs.declared.Returned.{Returned}
-use Rattle.packed_sheet.specs.declared.Answer.{Answer}
-use Rattle.packed_sheet.specs.Call.{Call, returned, clubs}
-use Rattle.packed_sheet.specs.Outcome.{outcome}
-use Rattle.packed_sheet.specs.Opening.{storeOf, left}
+use Rattle.outcomes.specs.declared.Returned.{Returned}
+use Rattle.outcomes.specs.declared.Answer.{Answer}
+use Rattle.outcomes.specs.Call.{Call, returned, clubs}
+use Rattle.outcomes.specs.Outcome.{storeOf, left, outcome}
 use Rattle.sheet_c.specs.Handed.{filled, handedBy, handed}
 
 module _ (call : Call) (tape slots counts output answer : List ℕ) where

@@ -3,10 +3,10 @@ ghost use mathlib.Core.Path.{_≡_};
 ghost use mathlib.Core.List.{[]};
 ghost use Prim.Native.Nat.{_≤_};
 ghost use lib.ListN.{length};
-ghost use Rattle.packed_sheet.specs.Call as call;
-ghost use Rattle.packed_sheet.specs.Opening.{storeOf};
+ghost use Rattle.outcomes.specs.Call as call;
+ghost use Rattle.outcomes.specs.Outcome.{storeOf};
 ghost use Rattle.sheet_c.specs.Handed.{filled, handed};
-use packed_sheet::Returned;
+use outcomes::Returned;
 
 // Puts the two values at the front of the answer slice, and gives the number.
 fn hand(back: Returned, answer: &mut [u64]) -> usize

@@ -1,7 +1,8 @@
 -- `check` meets its contract. Assumes nothing.
-use mathlib.Core.Path.{refl}
-use Rattle.packed_sheet.specs.Causes.{contentsFor}
-use Rattle.packed_sheet.specs.CallLaws.{found, refused-before, check-done}
+use mathlib.Core.Path.{refl, sym}
+use Rattle.outcomes.specs.Causes.{contentsFor}
+use Rattle.opening.specs.ArgumentLaws.{admitted-check}
+use Rattle.packed_sheet.specs.CallLaws.{call-admitted, call-refused, check-done}
 use borrow.Author.Needs.{needs}
 use Rattle.packed_sheet.proofs.check.Statement.{statement}
 use Rattle.packed_sheet.proofs.check.Tie as tie
@@ -20,12 +21,14 @@ enum-known-cause c = search needs
 
 returns : tie.Need-returns
 returns c =
-    check-done _ _ _ (found _ _ _ _ _ _ _ (c .before .before .before .before .examine .ensures) (c .before .n .given .1))
+    let x = c .before .before .before .before in
+    check-done _ _ _ (call-admitted _ _ _ _ (x .examine .ensures) (sym (admitted-check _ _)) (c .before .n .given .1))
 
 returns-2 : tie.Need-returns-2
 unfolding contentsFor
 returns-2 c =
-    refused-before _ _ _ _ _ _ _ _ _ refl (c .before .before .before .before .examine .ensures) (c .before .cause .given .1)
+    let x = c .before .before .before .before in
+    call-refused _ _ _ _ (x .examine .ensures) (sym (admitted-check _ _)) _ _ refl (c .before .cause .given .1)
 
 pub check-spec : {M : Type 1} → statement M
 check-spec =

@@ -1,5 +1,5 @@
 -- `clear` meets its contract. Assumes nothing.
-use Rattle.packed_sheet.specs.OpeningLaws.{slots-wrong, counts-wrong}
+use Rattle.opening.specs.OpeningLaws.{slots-wrong, counts-wrong}
 use Rattle.packed_sheet.specs.ClearLaws.{zeros-small, clear-wrong, clear-done}
 use borrow.Author.Needs.{needs}
 use Rattle.packed_sheet.proofs.clear.Statement.{statement}

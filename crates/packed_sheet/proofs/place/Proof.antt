@@ -1,7 +1,8 @@
 -- `place` meets its contract. Assumes nothing.
 use mathlib.Core.Path.{refl}
-use Rattle.packed_sheet.specs.Causes.{contentsFor}
-use Rattle.packed_sheet.specs.CallLaws.{found, refused-before, place-refused, place-done}
+use native.Mathlib.Omega.{arith}
+use Rattle.outcomes.specs.Causes.{contentsFor}
+use Rattle.packed_sheet.specs.CallLaws.{call-admitted, call-refused, place-within, place-done}
 use borrow.Author.Needs.{needs}
 use Rattle.packed_sheet.proofs.place.Statement.{statement}
 use Rattle.packed_sheet.proofs.place.Tie as tie
@@ -12,29 +13,30 @@ slice-aggregate-examine c = search needs
 examine-requires : tie.Need-examine-requires
 examine-requires c κs = search needs
 
-enum-known-n : tie.Need-enum-known-n
-enum-known-n c = search needs
+admit-rank-requires : tie.Need-admit-rank-requires
+admit-rank-requires c κs = search needs
 
-returns : tie.Need-returns
-returns c =
-    let k = c .before in
-    place-refused _ _ _ (found _ _ _ _ _ _ _ (k .before .before .before .before .examine .ensures) (k .before .n .given .1)) _ (c .if1 .taken)
+enum-told : tie.Need-enum-told
+enum-told c = search needs
 
 add-number : tie.Need-add-number
-add-number c = search needs
+add-number c =
+    let a = c .before .before in
+    omega (arith, place-within _ _ _ _ (call-admitted _ _ _ _ (a .before .before .examine .ensures) (a .admit-rank .ensures) (c .enum-told .given .1)))
 
 enum-known-cause : tie.Need-enum-known-cause
 enum-known-cause c = search needs
 
-returns-2 : tie.Need-returns-2
-returns-2 c =
-    let k = c .before in
-    place-done _ _ _ (found _ _ _ _ _ _ _ (k .before .before .before .before .examine .ensures) (k .before .n .given .1)) _ (c .if1 .left)
+returns : tie.Need-returns
+returns c =
+    let a = c .before .before in
+    place-done _ _ _ _ (call-admitted _ _ _ _ (a .before .before .examine .ensures) (a .admit-rank .ensures) (c .enum-told .given .1))
 
-returns-3 : tie.Need-returns-3
+returns-2 : tie.Need-returns-2
 unfolding contentsFor
-returns-3 c =
-    refused-before _ _ _ _ _ _ _ _ _ refl (c .before .before .before .before .examine .ensures) (c .before .cause .given .1)
+returns-2 c =
+    let a = c .before .before .before in
+    call-refused _ _ _ _ (a .before .before .examine .ensures) (a .admit-rank .ensures) _ _ refl (c .before .cause .given .1)
 
 pub place-spec : {M : Type 1} → statement M
 place-spec =
@@ -42,9 +44,9 @@ place-spec =
     (tie.spec
     slice-aggregate-examine
     examine-requires
-    enum-known-n
-    returns
+    admit-rank-requires
+    enum-told
     add-number
     enum-known-cause
-    returns-2
-    returns-3)
+    returns
+    returns-2)

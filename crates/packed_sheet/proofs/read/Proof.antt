@@ -1,8 +1,9 @@
 -- `read` meets its contract. Assumes nothing.
 use mathlib.Core.Path.{refl}
-use mathlib.Core.List.{[]}
-use Rattle.packed_sheet.specs.Causes.{contentsFor}
-use Rattle.packed_sheet.specs.CallLaws.{found, refused-before, read-first, read-last, read-order, read-short, read-room, read-done}
+use native.Mathlib.Omega.{arith}
+use Rattle.outcomes.specs.Causes.{contentsFor}
+use Rattle.opening.specs.AdmittedLaws.{entries-most}
+use Rattle.packed_sheet.specs.CallLaws.{call-admitted, call-refused, read-within, read-room, read-done}
 use borrow.Author.Needs.{needs}
 use Rattle.packed_sheet.proofs.read.Statement.{statement}
 use Rattle.packed_sheet.proofs.read.Tie as tie
@@ -13,43 +14,29 @@ slice-aggregate-examine c = search needs
 examine-requires : tie.Need-examine-requires
 examine-requires c κs = search needs
 
-enum-known-n : tie.Need-enum-known-n
-enum-known-n c = search needs
+admit-read-requires : tie.Need-admit-read-requires
+admit-read-requires c κs = search needs
 
-returns : tie.Need-returns
-returns c =
-    let k = c .before in
-    read-first _ _ _ (found _ _ _ _ _ _ _ (k .before .before .before .before .examine .ensures) (k .before .n .given .1)) _ _ _ (c .if1 .taken)
+enum-told : tie.Need-enum-told
+enum-told c = search needs
 
-returns-2 : tie.Need-returns-2
-returns-2 c =
-    let k = c .before .before in
-    read-last _ _ _ (found _ _ _ _ _ _ _ (k .before .before .before .before .examine .ensures) (k .before .n .given .1)) _ _ _ (c .if2 .taken)
-
-returns-3 : tie.Need-returns-3
-returns-3 c =
-    let k = c .before .before .before in
-    read-order _ _ _ (found _ _ _ _ _ _ _ (k .before .before .before .before .examine .ensures) (k .before .n .given .1)) _ _ _ (c .if3 .taken)
+sub-count : tie.Need-sub-count
+sub-count c =
+    let a = c .before .before in
+    read-within _ _ _ _ _ _ (call-admitted _ _ _ _ (a .before .before .examine .ensures) (a .admit-read .ensures) (c .enum-told .given .1)) .0
 
 add-count : tie.Need-add-count
-add-count c = search needs
-
-returns-4 : tie.Need-returns-4
-returns-4 c =
-    let e = c .before in
-    let k = e .before .before .before in
-    read-short _ _ _ (found _ _ _ _ _ _ _ (k .before .before .before .before .examine .ensures) (k .before .n .given .1)) _ _ _
-    (e .before .before .if1 .left) (e .before .if2 .left) (e .if3 .left) (c .if4 .taken)
+add-count c =
+    let a = c .before .before in
+    let w = call-admitted _ _ _ _ (a .before .before .examine .ensures) (a .admit-read .ensures) (c .enum-told .given .1) in
+    omega (arith, read-within _ _ _ _ _ _ w .1, entries-most _ _ _ w)
 
 read-out-requires : tie.Need-read-out-requires
 read-out-requires c κs =
-    let f = c .before in
-    let e = f .before in
-    let k = e .before .before .before in (
-      read-room _ _ _ (found _ _ _ _ _ _ _ (k .before .before .before .before .examine .ensures) (k .before .n .given .1)) _ _ []
-          (e .before .before .if1 .left) (e .before .if2 .left) (e .if3 .left),
-      f .if4 .left,
-    )
+    let e = c .before in
+    let a = e .before .before in
+    let w = call-admitted _ _ _ _ (a .before .before .examine .ensures) (a .admit-read .ensures) (e .enum-told .given .1) in
+    (read-room _ _ _ _ _ _ w, read-within _ _ _ _ _ _ w .2)
 
 enum-known-cause : tie.Need-enum-known-cause
 enum-known-cause c = search needs
@@ -57,20 +44,18 @@ enum-known-cause c = search needs
 same-length : tie.Need-same-length
 same-length c = search needs
 
-returns-5 : tie.Need-returns-5
-returns-5 c =
+returns : tie.Need-returns
+returns c =
     let r = c .before .before in
-    let f = r .before .before in
-    let e = f .before in
-    let k = e .before .before .before in
-    rw (r .read-out .ensures)
-    (read-done _ _ _ (found _ _ _ _ _ _ _ (k .before .before .before .before .examine .ensures) (k .before .n .given .1)) _ _ _
-    (e .before .before .if1 .left) (e .before .if2 .left) (e .if3 .left) (f .if4 .left))
+    let e = r .before .before in
+    let a = e .before .before in
+    rw (r .read-out .ensures) (read-done _ _ _ _ _ _ (call-admitted _ _ _ _ (a .before .before .examine .ensures) (a .admit-read .ensures) (e .enum-told .given .1)))
 
-returns-6 : tie.Need-returns-6
+returns-2 : tie.Need-returns-2
 unfolding contentsFor
-returns-6 c =
-    refused-before _ _ _ _ _ _ _ _ _ refl (c .before .before .before .before .examine .ensures) (c .before .cause .given .1)
+returns-2 c =
+    let a = c .before .before .before in
+    call-refused _ _ _ _ (a .before .before .examine .ensures) (a .admit-read .ensures) _ _ refl (c .before .cause .given .1)
 
 pub read-spec : {M : Type 1} → statement M
 read-spec =
@@ -78,14 +63,12 @@ read-spec =
     (tie.spec
     slice-aggregate-examine
     examine-requires
-    enum-known-n
-    returns
-    returns-2
-    returns-3
+    admit-read-requires
+    enum-told
+    sub-count
     add-count
-    returns-4
     read-out-requires
     enum-known-cause
     same-length
-    returns-5
-    returns-6)
+    returns
+    returns-2)

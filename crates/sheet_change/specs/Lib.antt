@@ -1,0 +1,3 @@
+-- An insert or a delete that no cause before 7 refuses.
+pub mod SheetChange
+pub mod SheetChangeLaws
