@@ -7,6 +7,7 @@ ghost use Rattle.outcomes.specs.Call as call;
 ghost use Rattle.outcomes.specs.Outcome.{storeOf};
 ghost use Rattle.sheet_c.specs.Handed.{filled, handed};
 use outcomes::Returned;
+use rules::Change;
 
 // Puts the two values at the front of the answer slice, and gives the number.
 fn hand(back: Returned, answer: &mut [u64]) -> usize
@@ -30,6 +31,27 @@ pub extern "C" fn sheet_clear(slots: &mut [u64], counts: &mut [u16], answer: &mu
     hand(packed_sheet::clear(slots, counts).returned(), answer)
 }
 
+// Makes the change of the list, with the entry of an insert.
+fn hand_change(
+    slots: &mut [u64],
+    counts: &mut [u16],
+    change: Change,
+    entry: u64,
+    tape: &[u32],
+    answer: &mut [u64],
+) -> usize
+    ensures { λ r. ⌜ record { number = r; store = storeOf (now (slots .exit)) (now (counts .exit)); output = []; answer = now (answer .exit) }
+        ≡ handed (call.changing change entry) (now (tape .entry)) (storeOf (now (slots .entry)) (now (counts .entry))) [] (now (answer .entry)) ⌝ }
+{
+    if answer.len() < 2 {
+        return 255;
+    }
+    hand(
+        packed_sheet::make_change(slots, counts, change, entry, tape).returned(),
+        answer,
+    )
+}
+
 // Puts the entry in at the rank.
 #[no_mangle]
 pub extern "C" fn sheet_insert(
@@ -43,13 +65,7 @@ pub extern "C" fn sheet_insert(
     ensures { λ r. ⌜ record { number = r; store = storeOf (now (slots .exit)) (now (counts .exit)); output = []; answer = now (answer .exit) }
         ≡ handed (call.insert rank entry) (now (tape .entry)) (storeOf (now (slots .entry)) (now (counts .entry))) [] (now (answer .entry)) ⌝ }
 {
-    if answer.len() < 2 {
-        return 255;
-    }
-    hand(
-        packed_sheet::insert(slots, counts, rank, entry, tape).returned(),
-        answer,
-    )
+    hand_change(slots, counts, Change::Insert(rank), entry, tape, answer)
 }
 
 // Takes the entry at the rank out.
@@ -64,13 +80,7 @@ pub extern "C" fn sheet_delete(
     ensures { λ r. ⌜ record { number = r; store = storeOf (now (slots .exit)) (now (counts .exit)); output = []; answer = now (answer .exit) }
         ≡ handed (call.delete rank) (now (tape .entry)) (storeOf (now (slots .entry)) (now (counts .entry))) [] (now (answer .entry)) ⌝ }
 {
-    if answer.len() < 2 {
-        return 255;
-    }
-    hand(
-        packed_sheet::delete(slots, counts, rank, tape).returned(),
-        answer,
-    )
+    hand_change(slots, counts, Change::Delete(rank), 0, tape, answer)
 }
 
 // Copies the entries of ranks first to last to the front of the output.

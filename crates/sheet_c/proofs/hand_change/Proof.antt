@@ -1,14 +1,14 @@
--- `sheet_delete` meets its contract. Assumes nothing.
+-- `hand_change` meets its contract. Assumes nothing.
 use borrow.Author.Needs.{needs}
 use Rattle.sheet_c.specs.HandedLaws.{handed-short, handed-done}
-use Rattle.sheet_c.proofs.sheet_delete.Statement.{statement}
-use Rattle.sheet_c.proofs.sheet_delete.Tie as tie
+use Rattle.sheet_c.proofs.hand_change.Statement.{statement}
+use Rattle.sheet_c.proofs.hand_change.Tie as tie
 
 returns : tie.Need-returns
 returns c = handed-short _ _ _ _ _ _ (c .if1 .taken)
 
-delete-requires : tie.Need-delete-requires
-delete-requires c κs = search needs
+make-change-requires : tie.Need-make-change-requires
+make-change-requires c κs = search needs
 
 returned-requires : tie.Need-returned-requires
 returned-requires c κs = search needs
@@ -30,14 +30,14 @@ returns-2 c =
     let hand = c .before .before in
     let back = hand .before .before in
     let made = back .before .before .before .before .before in
-    handed-done _ _ _ _ _ _ (made .before .before .before .if1 .left) _ _ _ _ (made .delete .ensures) _ (back .returned .ensures) _ _ (hand .hand .ensures)
+    handed-done _ _ _ _ _ _ (made .before .before .before .if1 .left) _ _ _ _ (made .make-change .ensures) _ (back .returned .ensures) _ _ (hand .hand .ensures)
 
-pub sheet-delete-spec : {M : Type 1} → statement M
-sheet-delete-spec =
+pub hand-change-spec : {M : Type 1} → statement M
+hand-change-spec =
     tie.close
     (tie.spec
     returns
-    delete-requires
+    make-change-requires
     returned-requires
     hand-requires
     same-length
