@@ -5,7 +5,7 @@ ghost use lib.ListN.{length};
 ghost use Rattle.packed_sheet.specs.Call as call;
 ghost use Rattle.packed_sheet.specs.Outcome.{outcome};
 ghost use Rattle.packed_sheet.specs.Opening.{storeOf, left, Opening, Changeable, ChangedAs};
-use rank_tree::Updated;
+use rank_update::Updated;
 use rules::Change;
 use sizes::Size;
 
@@ -160,7 +160,7 @@ fn change(
         (left r (now (slots .exit)) (now (counts .exit)) []) ⌝ }
 {
     let after = rank_tree::count_after(change, n);
-    match rank_tree::update(change, n, m, work, tape) {
+    match rank_update::update(change, n, m, work, tape) {
         Updated::Done {
             m: size,
             part,

@@ -21,7 +21,7 @@ use Rattle.rank_tree.specs.Ranges.{Perfect}
 use Rattle.rank_tree.specs.Counts.{shapeCounts, Holds}
 use Rattle.rank_tree.specs.RangeLaws.{balanced-perfect}
 use Rattle.rank_tree.specs.ShapeCountLaws.{length-shapeCounts, shapeCounts-holds}
-use Rattle.rank_tree.specs.Update.{Confined}
+use Rattle.rank_tree.specs.Confined.{Confined}
 use Rattle.layout.specs.Leaf.{nonzero}
 use Rattle.layout.specs.Layout.{Capacity, leafCounts, layLeaves, padTo, laySlots}
 use Rattle.layout.specs.Sheet.{IsContents}

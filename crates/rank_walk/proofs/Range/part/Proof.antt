@@ -1,8 +1,8 @@
--- `rank_tree::Range::part` meets its contract. Assumes nothing.
+-- `rank_walk::Range::part` meets its contract. Assumes nothing.
 use mathlib.Core.Path.{refl}
 use borrow.Author.Needs.{needs}
-use Rattle.rank_tree.proofs.Range.part.Statement.{statement}
-use Rattle.rank_tree.proofs.Range.part.Tie as tie
+use Rattle.rank_walk.proofs.Range.part.Statement.{statement}
+use Rattle.rank_walk.proofs.Range.part.Tie as tie
 
 rank-of-requires : tie.Need-rank-of-requires
 rank-of-requires c κs = search needs

@@ -1,8 +1,8 @@
--- `rank_tree::Range::half` meets its contract. Assumes nothing.
-use Rattle.rank_tree.specs.WalkLaws.{half-left, half-right}
+-- `rank_walk::Range::half` meets its contract. Assumes nothing.
+use Rattle.rank_walk.specs.WalkLaws.{half-left, half-right}
 use borrow.Author.Needs.{needs}
-use Rattle.rank_tree.proofs.Range.half.Statement.{statement}
-use Rattle.rank_tree.proofs.Range.half.Tie as tie
+use Rattle.rank_walk.proofs.Range.half.Statement.{statement}
+use Rattle.rank_walk.proofs.Range.half.Tie as tie
 
 add-depth : tie.Need-add-depth
 add-depth c = search needs

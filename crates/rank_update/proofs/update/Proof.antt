@@ -1,14 +1,14 @@
--- `rank_tree::update` meets its contract. Assumes nothing.
+-- `rank_update::update` meets its contract. Assumes nothing.
 use native.Mathlib.Omega.{arith}
 use denote.Ref.{now}
 use lib.ListN.{length}
 use Rattle.shares.specs.Tape.{runAt}
 use Rattle.rules.specs.Rules as rules
-use Rattle.rank_tree.specs.Update.{shapeIn, UpdatedAs}
-use Rattle.rank_tree.specs.UpdateLaws.{walkedTo, rebuiltTo, kept-can, kept-updated, anew-can, anew-updated, ended-updated}
+use Rattle.rank_update.specs.Update.{shapeIn, UpdatedAs}
+use Rattle.rank_update.specs.UpdateLaws.{walkedTo, rebuiltTo, kept-can, kept-updated, anew-can, anew-updated, ended-updated}
 use borrow.Author.Needs.{needs}
-use Rattle.rank_tree.proofs.update.Statement.{statement}
-use Rattle.rank_tree.proofs.update.Tie as tie
+use Rattle.rank_update.proofs.update.Statement.{statement}
+use Rattle.rank_update.proofs.update.Tie as tie
 
 kept : (c : tie.After-walk) →
     let a = c .before .before .before .before .before .before .before .before .args in

@@ -1,14 +1,14 @@
--- `rank_tree::descend` meets its contract. The loop's invariant: the run of the walk is that from the present range on. Assumes nothing.
+-- `rank_walk::descend` meets its contract. The loop's invariant: the run of the walk is that from the present range on. Assumes nothing.
 use mathlib.Core.Path.{refl}
 use Prim.Native.Nat.{suc, _-_, _*_}
 use native.Mathlib.Omega.{arith}
 use borrow.Author.Needs.{needs}
 use denote.Ref.{now}
 use lib.ListN.{getD}
-use Rattle.rank_tree.specs.Walk.{walkRun, Walking}
-use Rattle.rank_tree.specs.WalkLaws.{walking-start, above-walking, comparable, entries-most, node-bounds, balance-below, Seen, stop-leaf, stop-rebuild, stop-enter, stop-ended, pass, half-lower}
-use Rattle.rank_tree.proofs.descend.Statement.{statement}
-use Rattle.rank_tree.proofs.descend.Tie as tie
+use Rattle.rank_walk.specs.Walk.{walkRun, Walking}
+use Rattle.rank_walk.specs.WalkLaws.{walking-start, above-walking, comparable, entries-most, node-bounds, balance-below, Seen, stop-leaf, stop-rebuild, stop-enter, stop-ended, pass, half-lower}
+use Rattle.rank_walk.proofs.descend.Statement.{statement}
+use Rattle.rank_walk.proofs.descend.Tie as tie
 
 abbrev Inv-loop : tie.InvT-loop
 Inv-loop n size counts₀ tape start range₀ at₀ counts range at =

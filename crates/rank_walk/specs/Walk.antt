@@ -16,19 +16,19 @@ use Rattle.rules.specs.declared.Comparison.the-variants.{Unchanged, Swapped}
 use Rattle.rules.specs.Tree.{Tree, leaf, Balanced}
 use Rattle.rules.specs.Compare.{countAfter}
 use Rattle.rules.specs.Rules.{InReach, rebuild, rebuildHalves, walk, rankOf, atRank}
 use Rattle.rank_tree.specs.declared.Part.{Part}
-use Rattle.rank_tree.specs.declared.Range.{Range}
+use Rattle.rank_walk.specs.declared.Range.{Range}
 use Rattle.rank_tree.specs.declared.Rebuilt.{Rebuilt}
 use Rattle.rank_tree.specs.declared.Rebuilt.the-variants as rebuilt
-use Rattle.rank_tree.specs.declared.Visited.{Visited}
-use Rattle.rank_tree.specs.declared.Visited.the-variants as visited
-use Rattle.rank_tree.specs.declared.Stop.{Stop}
-use Rattle.rank_tree.specs.declared.Stop.the-variants as stop
-use Rattle.rank_tree.specs.declared.Walked.{Walked}
-use Rattle.rank_tree.specs.declared.Walked.the-variants as walked
+use Rattle.rank_walk.specs.declared.Visited.{Visited}
+use Rattle.rank_walk.specs.declared.Visited.the-variants as visited
+use Rattle.rank_walk.specs.declared.Stop.{Stop}
+use Rattle.rank_walk.specs.declared.Stop.the-variants as stop
+use Rattle.rank_walk.specs.declared.Walked.{Walked}
+use Rattle.rank_walk.specs.declared.Walked.the-variants as walked
 use Rattle.rank_tree.specs.Counts.{readTree, writeTree, Holds}
-use Rattle.rank_tree.specs.Update.{Within}
+use Rattle.rank_tree.specs.Confined.{Within}
 use Rattle.rank_tree.specs.Rebuild.{CanRebuild}
 
 -- ---- one range
 

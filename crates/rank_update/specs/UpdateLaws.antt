@@ -1,12 +1,10 @@
 -- Laws of the whole change: what the size step and the walk ask, and what they leave. Assumes nothing.
 use mathlib.Core.Path.{_≡_, refl, ap, sym, _∙_, subst}
 use mathlib.Core.Logic.{inl, inr}
-use mathlib.Core.List.{List, [], _∷_, _++_}
-use Prim.Native.Nat.{ℕ, _+_, _<_}
+use mathlib.Core.List.{List}
+use Prim.Native.Nat.{ℕ}
 use native.Mathlib.Omega.{arith}
-use native.Mathlib.Numerals.{add-one}
-use lib.ListN.{length, set, take, replicate, replicate-append-replicate}
-use lib.Seq.{take-all, take-suc-set}
+use lib.ListN.{length, set, replicate}
 use Rattle.shares.specs.Tape.{Ran, ran, ended, runAt, afterRun}
 use Rattle.shares.specs.TapeLaws.{run-bind, run-ends}
 use Rattle.sizes.specs.Sizes.{Allowed, height}
@@ -20,34 +18,21 @@ use Rattle.rules.specs.Rules.{rebuild, walk, rankOf, SizeStep, kept, anew, size
 use Rattle.rules.specs.Step.{steppedAs}
 use Rattle.rules.specs.ChangeLaws.{count-most}
 use Rattle.rules.specs.ShapeLaws.{step-ends, walk-ends}
 use Rattle.rank_tree.specs.declared.Rebuilt.{Rebuilt}
 use Rattle.rank_tree.specs.declared.Rebuilt.the-variants as rebuilt
-use Rattle.rank_tree.specs.declared.Walked.{Walked}
-use Rattle.rank_tree.specs.declared.Walked.the-variants as walked
-use Rattle.rank_tree.specs.declared.Updated.{Updated}
-use Rattle.rank_tree.specs.declared.Updated.the-variants as updated
+use Rattle.rank_walk.specs.declared.Walked.{Walked}
+use Rattle.rank_walk.specs.declared.Walked.the-variants as walked
+use Rattle.rank_update.specs.declared.Updated.{Updated}
+use Rattle.rank_update.specs.declared.Updated.the-variants as updated
 use Rattle.rank_tree.specs.Counts.{readTree, writeTree, shapeCounts, Holds}
-use Rattle.rank_tree.specs.Update.{shapeIn, Ready, Confined, UpdatedAs}
+use Rattle.rank_tree.specs.Confined.{Confined}
+use Rattle.rank_update.specs.Update.{shapeIn, Ready, UpdatedAs}
 use Rattle.rank_tree.specs.Rebuild.{CanRebuild, RebuiltAs}
-use Rattle.rank_tree.specs.Walk.{CanWalk, walkRun, WalkedAs}
+use Rattle.rank_walk.specs.Walk.{CanWalk, walkRun, WalkedAs}
 use Rattle.rank_tree.specs.Ranges.{Perfect}
 use Rattle.rank_tree.specs.RangeLaws.{balanced-perfect}
 use Rattle.rank_tree.specs.CountLaws.{write-over}
 use Rattle.rank_tree.specs.ShapeCountLaws.{shapeCounts-holds}
-
--- ---- all counts zero
-
-pub zero-more : (counts : List ℕ) (i : ℕ) → i < length counts → take i counts ≡ replicate i 0
-    → take (i + 1) (set counts i 0) ≡ replicate (i + 1) 0
-zero-more counts i h e =
-    ap (λ (j : ℕ). take j (set counts i 0)) (add-one i)
-    ∙ take-suc-set counts i 0 h
-    ∙ ap (λ (c : List ℕ). c ++ (0 ∷ [])) e
-    ∙ replicate-append-replicate i 1 0
-
-pub zero-all : (counts : List ℕ) (i room : ℕ) → length counts ≡ room → i ≡ room → take i counts ≡ replicate i 0
-    → counts ≡ replicate room 0
-zero-all counts i room el ei e = sym (take-all i counts (omega arith)) ∙ e ∙ ap (λ (j : ℕ). replicate j 0) ei
 
 -- ---- answers
 

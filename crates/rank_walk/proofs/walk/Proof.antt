@@ -1,4 +1,4 @@
--- `rank_tree::walk` meets its contract. Assumes nothing.
+-- `rank_walk::walk` meets its contract. Assumes nothing.
 use Prim.Native.Nat.{suc, _-_, _<_}
 use native.Mathlib.Omega.{arith}
 use denote.Ref.{now}
@@ -8,14 +8,14 @@ use Rattle.sizes.specs.Sizes.{candidates, IsCandidate}
 use Rattle.rules.specs.Tree as tree
 use Rattle.rules.specs.Tree.{Tree}
 use Rattle.rules.specs.Rules as rules
-use Rattle.rank_tree.specs.declared.Range.{Range}
+use Rattle.rank_walk.specs.declared.Range.{Range}
 use Rattle.rank_tree.specs.Rebuild.{CanRebuild}
 use Rattle.rank_tree.specs.RebuildLaws.{rebuild-here, above-leaves}
-use Rattle.rank_tree.specs.Walk.{entriesAfter, walkRun, Stopped}
-use Rattle.rank_tree.specs.WalkLaws.{stopped-most, leaf-stopped, leaf-walked, rebuild-stopped, rebuild-walked, enter-stopped, enter-walked, ended-walked}
+use Rattle.rank_walk.specs.Walk.{entriesAfter, walkRun, Stopped}
+use Rattle.rank_walk.specs.WalkLaws.{stopped-most, leaf-stopped, leaf-walked, rebuild-stopped, rebuild-walked, enter-stopped, enter-walked, ended-walked}
 use borrow.Author.Needs.{needs}
-use Rattle.rank_tree.proofs.walk.Statement.{statement}
-use Rattle.rank_tree.proofs.walk.Tie as tie
+use Rattle.rank_walk.proofs.walk.Statement.{statement}
+use Rattle.rank_walk.proofs.walk.Tie as tie
 
 -- the run of the walk
 abbrev whole : tie.After-descend → Ran Tree

@@ -1,9 +1,9 @@
--- `rank_tree::finish` meets its contract. Assumes nothing.
+-- `rank_walk::finish` meets its contract. Assumes nothing.
 use mathlib.Core.Path.{refl}
-use Rattle.rank_tree.specs.Walk.{walkAnswer}
+use Rattle.rank_walk.specs.Walk.{walkAnswer}
 use borrow.Author.Needs.{needs}
-use Rattle.rank_tree.proofs.finish.Statement.{statement}
-use Rattle.rank_tree.proofs.finish.Tie as tie
+use Rattle.rank_walk.proofs.finish.Statement.{statement}
+use Rattle.rank_walk.proofs.finish.Tie as tie
 
 enum-known-rebuilt : tie.Need-enum-known-rebuilt
 enum-known-rebuilt c = search needs

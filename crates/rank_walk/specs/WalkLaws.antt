@@ -22,24 +22,24 @@ use Rattle.rules.specs.MoveLaws.{moves}
 use Rattle.rules.specs.Step.{Comparable}
 use Rattle.rules.specs.ChangeLaws.{count-least, right-reach, right-after, right-now, left-reach, left-count, left-now}
 use Rattle.rules.specs.Rules.{InReach, rebuild, rebuildHalves, walk, rankOf, atRank}
 use Rattle.rank_tree.specs.declared.Part.{Part}
-use Rattle.rank_tree.specs.declared.Range.{Range}
+use Rattle.rank_walk.specs.declared.Range.{Range}
 use Rattle.rank_tree.specs.declared.Rebuilt.{Rebuilt}
 use Rattle.rank_tree.specs.declared.Rebuilt.the-variants as rebuilt
-use Rattle.rank_tree.specs.declared.Visited.{Visited}
-use Rattle.rank_tree.specs.declared.Visited.the-variants as visited
-use Rattle.rank_tree.specs.declared.Stop.{Stop}
-use Rattle.rank_tree.specs.declared.Stop.the-variants as stop
-use Rattle.rank_tree.specs.declared.Walked.{Walked}
-use Rattle.rank_tree.specs.declared.Walked.the-variants as walked
+use Rattle.rank_walk.specs.declared.Visited.{Visited}
+use Rattle.rank_walk.specs.declared.Visited.the-variants as visited
+use Rattle.rank_walk.specs.declared.Stop.{Stop}
+use Rattle.rank_walk.specs.declared.Stop.the-variants as stop
+use Rattle.rank_walk.specs.declared.Walked.{Walked}
+use Rattle.rank_walk.specs.declared.Walked.the-variants as walked
 use Rattle.rank_tree.specs.Counts.{readTree, writeTree, Holds}
-use Rattle.rank_tree.specs.Update.{Within}
+use Rattle.rank_tree.specs.Confined.{Within}
 use Rattle.rank_tree.specs.Rebuild.{RebuiltAs}
-use Rattle.rank_tree.specs.Walk.{visitAt, halfOf, partOf, entriesAfter, CanWalk, walkRun, Walking, Stopped, StoppedAs, walkAnswer, WalkedAs}
+use Rattle.rank_walk.specs.Walk.{visitAt, halfOf, partOf, entriesAfter, CanWalk, walkRun, Walking, Stopped, StoppedAs, walkAnswer, WalkedAs}
 use Rattle.rank_tree.specs.RangeLaws.{not-left, not-right}
 use Rattle.rank_tree.specs.CountLaws.{holds-count, holds-set, write-left, write-right}
 use Rattle.rank_tree.specs.RebuildLaws.{one-more, Bounds, bounds, halves-can}
-use Rattle.rank_tree.specs.VisitLaws.{visitRun, visit-run, pass-stays, enters-candidate}
+use Rattle.rank_walk.specs.VisitLaws.{visitRun, visit-run, pass-stays, enters-candidate}
 
 -- ---- the run at a range above the leaves
 

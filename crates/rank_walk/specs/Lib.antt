@@ -1,0 +1,4 @@
+-- The walk down a tree: definitions first, then its laws.
+pub mod Walk
+pub mod VisitLaws
+pub mod WalkLaws
