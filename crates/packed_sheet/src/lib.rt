@@ -119,7 +119,7 @@ fn examine(slots: &[u64], counts: &[u16], work: &mut [u32]) -> Opened
         return Opened::Refused(Cause::Lengths);
     }
     part_layout::widen(counts, work);
-    if !layout::is_sheet(1024, slots, work) {
+    if !sheet_test::is_sheet(1024, slots, work) {
         return Opened::Refused(Cause::NotASheet);
     }
     let n = work[1] as usize;
