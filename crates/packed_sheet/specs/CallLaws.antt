@@ -17,7 +17,7 @@ use Rattle.rules.specs.Compare.{countAfter}
 use Rattle.rules.specs.Rules.{InReach}
 use Rattle.layout.specs.Layout.{Capacity, Store}
 use Rattle.layout.specs.SheetLaws.{decode-sound}
-use Rattle.part_layout.specs.ChangeList.{changeList}
+use Rattle.slices.specs.ChangeList.{changeList}
 use Rattle.layout.specs.Leaf.{nonzero}
 use Rattle.layout.specs.Sheet.{Contents, listOf, shapeOf, sheetTest, decode}
 use Rattle.packed_sheet.specs.declared.Cause.{Cause}

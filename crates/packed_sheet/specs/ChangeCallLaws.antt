@@ -25,8 +25,8 @@ use Rattle.rank_update.specs.Update.{shapeIn, Ready, UpdatedAs}
 use Rattle.layout.specs.Layout.{Store, countOrder, laySlots, layCounts, layOut}
 use Rattle.layout.specs.Sheet.{IsContents, Contents, decode}
 use Rattle.layout.specs.SheetLaws.{decode-sound, length-slots}
-use Rattle.part_layout.specs.ChangeList.{changeList}
-use Rattle.part_layout.specs.ChangeListLaws.{length-changed}
+use Rattle.slices.specs.ChangeList.{changeList}
+use Rattle.slices.specs.ChangeListLaws.{length-changed}
 use Rattle.part_layout.specs.Plan.{Plan}
 use Rattle.part_layout.specs.PlanLaws.{plan}
 use Rattle.part_layout.specs.LayPart.{partEntries, layEntries, layPart, LayReady}

@@ -15,7 +15,7 @@ use Rattle.rules.specs.Compare.{countAfter}
 use Rattle.rules.specs.Rules.{update}
 use Rattle.layout.specs.Layout.{Capacity, Store, layOut}
 use Rattle.layout.specs.Sheet.{Contents, decode}
-use Rattle.part_layout.specs.ChangeList.{changeList}
+use Rattle.slices.specs.ChangeList.{changeList}
 use Rattle.packed_sheet.specs.declared.Cause.{Cause}
 use Rattle.packed_sheet.specs.declared.Cause.the-variants.{Lengths, NotASheet}
 use Rattle.packed_sheet.specs.declared.Answer.the-variants.{Changed}

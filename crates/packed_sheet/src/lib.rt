@@ -118,7 +118,7 @@ fn examine(slots: &[u64], counts: &[u16], work: &mut [u32]) -> Opened
     if counts.len() != 256 {
         return Opened::Refused(Cause::Lengths);
     }
-    part_layout::widen(counts, work);
+    slices::widen(counts, work);
     if !sheet_test::is_sheet(1024, slots, work) {
         return Opened::Refused(Cause::NotASheet);
     }
@@ -139,8 +139,8 @@ pub fn clear(slots: &mut [u64], counts: &mut [u16]) -> Answer
         return Answer::Refused(Cause::Lengths);
     }
     let zeros = [0u32; 256];
-    part_layout::zero_slots(slots, 0, 4224);
-    part_layout::narrow(&zeros, counts);
+    slices::zero_slots(slots, 0, 4224);
+    slices::narrow(&zeros, counts);
     Answer::Cleared
 }
 
@@ -175,7 +175,7 @@ fn change(
                 e,
                 work,
             );
-            part_layout::narrow(work, counts);
+            slices::narrow(work, counts);
             Answer::Changed {
                 n: after,
                 words: next,
@@ -270,7 +270,7 @@ pub fn read(slots: &[u64], counts: &[u16], first: usize, last: usize, output: &m
             if output.len() < count {
                 return Answer::Refused(Cause::OutputShort);
             }
-            part_layout::read_out(slots, first, count, output);
+            slices::read_out(slots, first, count, output);
             Answer::Entries { count: count }
         }
         Opened::Refused(cause) => Answer::Refused(cause),

@@ -24,7 +24,7 @@ use Rattle.rank_tree.specs.RangeLaws.{balanced-perfect}
 use Rattle.rank_tree.specs.Confined.{Within}
 use Rattle.layout.specs.Layout.{leafCounts, layLeaves}
 use Rattle.layout.specs.LayoutLaws.{leafCounts-total, length-leafCounts, length-layLeaves, layLeaves-node}
-use Rattle.part_layout.specs.ChangeList.{changeList}
+use Rattle.slices.specs.ChangeList.{changeList}
 use Rattle.part_layout.specs.Located.{IsRange, Located}
 
 -- ---- a changed list, parted where a half ends

@@ -28,8 +28,8 @@ use Rattle.layout.specs.Sheet.{IsContents}
 use Rattle.layout.specs.Room.{Roomy}
 use Rattle.layout.specs.LayoutLaws.{holds-leaves, leafCounts-total, leafCounts-fit, nonzero-layLeaves}
 use Rattle.layout.specs.SheetLaws.{leaves-layOut}
-use Rattle.part_layout.specs.ChangeList.{changeList}
-use Rattle.part_layout.specs.ChangeListLaws.{length-changed}
+use Rattle.slices.specs.ChangeList.{changeList}
+use Rattle.slices.specs.ChangeListLaws.{length-changed}
 use Rattle.part_layout.specs.Region.{leavesOf, leavesBefore}
 use Rattle.part_layout.specs.Located.{IsRange, Located}
 use Rattle.part_layout.specs.LocatedLaws.{range-length, located}

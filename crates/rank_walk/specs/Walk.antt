@@ -4,15 +4,10 @@ use mathlib.Core.Path.{_≡_}
 use mathlib.Core.List.{List}
 use Prim.Native.Nat.{ℕ, _+_, _-_, _*_, _^_, _≤_, _<_}
 use lib.ListN.{length}
-use Rattle.base.specs.Cases.{ifEq, ifLt}
-use Rattle.draw.specs.declared.Drawn.{Drawn}
-use Rattle.draw.specs.declared.Drawn.the-variants as drawn
-use Rattle.draw.specs.Draw.{drawAt}
+use Rattle.base.specs.Cases.{ifLt}
 use Rattle.shares.specs.Tape.{Ran, ran, ended, afterRun, runAt}
 use Rattle.sizes.specs.Sizes.{height, candidates, IsCandidate, Fits}
 use Rattle.rules.specs.declared.Change.{Change}
-use Rattle.rules.specs.declared.Comparison.{Comparison}
-use Rattle.rules.specs.declared.Comparison.the-variants.{Unchanged, Swapped}
 use Rattle.rules.specs.Tree.{Tree, leaf, Balanced}
 use Rattle.rules.specs.Compare.{countAfter}
 use Rattle.rules.specs.Rules.{InReach, rebuild, rebuildHalves, walk, rankOf, atRank}
@@ -20,8 +15,6 @@ use Rattle.rank_tree.specs.declared.Part.{Part}
 use Rattle.rank_walk.specs.declared.Range.{Range}
 use Rattle.rank_tree.specs.declared.Rebuilt.{Rebuilt}
 use Rattle.rank_tree.specs.declared.Rebuilt.the-variants as rebuilt
-use Rattle.rank_walk.specs.declared.Visited.{Visited}
-use Rattle.rank_walk.specs.declared.Visited.the-variants as visited
 use Rattle.rank_walk.specs.declared.Stop.{Stop}
 use Rattle.rank_walk.specs.declared.Stop.the-variants as stop
 use Rattle.rank_walk.specs.declared.Walked.{Walked}
@@ -31,16 +24,6 @@ use Rattle.rank_tree.specs.Confined.{Within}
 use Rattle.rank_tree.specs.Rebuild.{CanRebuild}
 
 -- ---- one range
-
--- After a draw for the entering entry: face 0 makes it the balance entry.
-unfoldable pub visitDrawn : ℕ → Drawn → Visited
-visitDrawn into (drawn.Face face next) = ifEq face 0 (visited.Enter into next) (visited.Pass next)
-visitDrawn into drawn.Ended = visited.Ended
-
--- What the rule `visit` does at a range with c candidates and the balance rank b.
-unfoldable pub visitAt : Comparison → ℕ → ℕ → List ℕ → ℕ → Visited
-visitAt Unchanged c b tape at = visited.Pass at
-visitAt (Swapped out into) c b tape at = ifEq b out visited.Rebuild (visitDrawn into (drawAt c tape at))
 
 -- A range above the leaves whose numbers are small enough to count on, and a balance rank in it.
 pub record CanHalve (range : Range) (b : ℕ) : Type 0 where

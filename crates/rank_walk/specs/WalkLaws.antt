@@ -26,8 +26,8 @@ use Rattle.rank_tree.specs.declared.Part.{Part}
 use Rattle.rank_walk.specs.declared.Range.{Range}
 use Rattle.rank_tree.specs.declared.Rebuilt.{Rebuilt}
 use Rattle.rank_tree.specs.declared.Rebuilt.the-variants as rebuilt
-use Rattle.rank_walk.specs.declared.Visited.{Visited}
-use Rattle.rank_walk.specs.declared.Visited.the-variants as visited
+use Rattle.rank_visit.specs.declared.Visited.{Visited}
+use Rattle.rank_visit.specs.declared.Visited.the-variants as visited
 use Rattle.rank_walk.specs.declared.Stop.{Stop}
 use Rattle.rank_walk.specs.declared.Stop.the-variants as stop
 use Rattle.rank_walk.specs.declared.Walked.{Walked}
@@ -35,11 +35,12 @@ use Rattle.rank_walk.specs.declared.Walked.the-variants as walked
 use Rattle.rank_tree.specs.Counts.{readTree, writeTree, Holds}
 use Rattle.rank_tree.specs.Confined.{Within}
 use Rattle.rank_tree.specs.Rebuild.{RebuiltAs}
-use Rattle.rank_walk.specs.Walk.{visitAt, halfOf, partOf, entriesAfter, CanWalk, walkRun, Walking, Stopped, StoppedAs, walkAnswer, WalkedAs}
+use Rattle.rank_visit.specs.Visit.{visitAt}
+use Rattle.rank_walk.specs.Walk.{halfOf, partOf, entriesAfter, CanWalk, walkRun, Walking, Stopped, StoppedAs, walkAnswer, WalkedAs}
 use Rattle.rank_tree.specs.RangeLaws.{not-left, not-right}
 use Rattle.rank_tree.specs.CountLaws.{holds-count, holds-set, write-left, write-right}
 use Rattle.rank_tree.specs.RebuildLaws.{one-more, Bounds, bounds, halves-can}
-use Rattle.rank_walk.specs.VisitLaws.{visitRun, visit-run, pass-stays, enters-candidate}
+use Rattle.rank_visit.specs.VisitLaws.{visitRun, visit-run, pass-stays, enters-candidate}
 
 -- ---- the run at a range above the leaves
 

@@ -3,27 +3,16 @@ ghost use mathlib.Core.Path.{_≡_};
 ghost use Prim.Native.Nat.{_^_, _<_};
 ghost use Rattle.sizes.specs.Sizes.{height};
 ghost use Rattle.rules.specs.Rules as rules;
-ghost use Rattle.rules.specs.Compare.{compare};
-ghost use Rattle.rules.specs.Step.{Comparable};
 ghost use Rattle.rank_tree.specs.Counts.{readTree};
-ghost use Rattle.rank_walk.specs.Walk.{visitAt, entriesAfter, partOf, CanHalve, halfOf, CanWalk, walkRun, StoppedAs, walkAnswer, WalkedAs};
-use draw::Drawn;
+ghost use Rattle.rank_walk.specs.Walk.{entriesAfter, partOf, CanHalve, halfOf, CanWalk, walkRun, StoppedAs, walkAnswer, WalkedAs};
 use rank_tree::Part;
 use rank_tree::Rebuilt;
 use rank_tree::rebuild;
 use rank_tree::rebuild_halves;
+use rank_visit::Visited;
+use rank_visit::visit;
 use rules::Change;
-use rules::Comparison;
 use sizes::Size;
-
-// What the rule gives at a range that the walk visits: it passes on below, the balance entry leaves, the entering entry becomes the
-// balance entry, or the tape ended. With the place of the next word.
-enum Visited {
-    Pass { next: usize },
-    Rebuild,
-    Enter { into: usize, next: usize },
-    Ended,
-}
 
 // What the walk comes to: the part that it changed and the place of the next word, or the tape ended.
 pub enum Walked {
@@ -88,34 +77,6 @@ impl Range {
             levels: levels,
             n: b,
             change: change,
-        }
-    }
-}
-
-// Visits a range of n entries with c candidates and the balance rank b: the candidates before and after the change are compared, and
-// where another than the balance entry leaves, a draw among c says whether the entering one becomes the balance entry.
-fn visit(change: Change, n: usize, c: usize, b: usize, tape: &[u32], at: usize) -> Visited
-    requires { ⌜ Comparable change n c ⌝ }
-    ensures { λ r. ⌜ r ≡ visitAt (compare change n c) c b (now (tape .entry)) at ⌝ }
-{
-    match rules::compare(change, n, c) {
-        Comparison::Unchanged => Visited::Pass { next: at },
-        Comparison::Swapped { out, into } => {
-            if b == out {
-                return Visited::Rebuild;
-            }
-            match draw::draw(tape, at, c) {
-                Drawn::Face { face, next } => {
-                    if face == 0 {
-                        return Visited::Enter {
-                            into: into,
-                            next: next,
-                        };
-                    }
-                    Visited::Pass { next: next }
-                }
-                Drawn::Ended => Visited::Ended,
-            }
         }
     }
 }

@@ -1,9 +1,9 @@
 -- `change_list` meets its contract. Assumes nothing.
 use native.Mathlib.Omega.{arith}
 use borrow.Author.Needs.{needs}
-use Rattle.part_layout.specs.ChangedLaws.{insert-within, delete-within, put-in-changed, take-out-changed}
-use Rattle.part_layout.proofs.change_list.Statement.{statement}
-use Rattle.part_layout.proofs.change_list.Tie as tie
+use Rattle.slices.specs.ChangedLaws.{insert-within, delete-within, put-in-changed, take-out-changed}
+use Rattle.slices.proofs.change_list.Statement.{statement}
+use Rattle.slices.proofs.change_list.Tie as tie
 
 enum-known-change : tie.Need-enum-known-change
 enum-known-change c = search needs

@@ -5,10 +5,10 @@ use borrow.Author.Needs.{needs}
 use denote.Ref.{now}
 use lib.ListN.{length}
 use Rattle.base.specs.ListLaws.{every-getD}
-use Rattle.part_layout.specs.Pasted.{Pasted}
-use Rattle.part_layout.specs.PastedLaws.{copied-next, copied-all}
-use Rattle.part_layout.proofs.narrow.Statement.{statement}
-use Rattle.part_layout.proofs.narrow.Tie as tie
+use Rattle.slices.specs.Pasted.{Pasted}
+use Rattle.slices.specs.PastedLaws.{copied-next, copied-all}
+use Rattle.slices.proofs.narrow.Statement.{statement}
+use Rattle.slices.proofs.narrow.Tie as tie
 
 abbrev Inv-loop : tie.InvT-loop
 Inv-loop work counts₀ i₀ counts i = (i ≤ length work) × Pasted counts₀ 0 work i counts

@@ -3,10 +3,10 @@ use Prim.Native.Nat.{_-_, _≤_}
 use native.Mathlib.Omega.{arith}
 use borrow.Author.Needs.{needs}
 use lib.ListN.{replicate}
-use Rattle.part_layout.specs.Pasted.{Pasted}
-use Rattle.part_layout.specs.PastedLaws.{pasted-none, filled-next, filled-all}
-use Rattle.part_layout.proofs.zero_slots.Statement.{statement}
-use Rattle.part_layout.proofs.zero_slots.Tie as tie
+use Rattle.slices.specs.Pasted.{Pasted}
+use Rattle.slices.specs.PastedLaws.{pasted-none, filled-next, filled-all}
+use Rattle.slices.proofs.zero_slots.Statement.{statement}
+use Rattle.slices.proofs.zero_slots.Tie as tie
 
 abbrev Inv-loop : tie.InvT-loop
 Inv-loop slots₀ from to slot₀ slots slot = (from ≤ slot) × (slot ≤ to) × Pasted slots₀ from (replicate (to - from) 0) (slot - from) slots

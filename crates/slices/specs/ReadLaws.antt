@@ -8,8 +8,8 @@ use lib.ListN.{length, getD, drop, set, length-drop}
 use lib.Seq.{drop-cons, getD-drop}
 use Rattle.layout.specs.Leaf.{nonzero}
 use Rattle.layout.specs.LeafLaws.{nonzero-zero, nonzero-entry, nonzero-length}
-use Rattle.part_layout.specs.Pasted.{Pasted}
-use Rattle.part_layout.specs.PastedLaws.{pasted-next}
+use Rattle.slices.specs.Pasted.{Pasted}
+use Rattle.slices.specs.PastedLaws.{pasted-next}
 
 -- ---- the slot i, where the entries behind the first `seen` are those of the slots from i on
 

@@ -11,8 +11,8 @@ use Rattle.rules.specs.declared.Change.{Change}
 use Rattle.rules.specs.declared.Change.the-variants.{Insert, Delete}
 use Rattle.rules.specs.Compare.{countAfter}
 use Rattle.rules.specs.Rules.{InReach}
-use Rattle.part_layout.specs.ChangeList.{changeList}
-use Rattle.part_layout.specs.Changed.{Changed}
+use Rattle.slices.specs.ChangeList.{changeList}
+use Rattle.slices.specs.Changed.{Changed}
 
 module _ {change : Change} {i : ℕ} (n : ℕ) (reach : InReach change n) where
   pub insert-within : change ≡ Insert i → i ≤ n

@@ -7,9 +7,9 @@ use borrow.Author.Needs.{needs}
 use denote.Ref.{now}
 use lib.ListN.{length, drop}
 use Rattle.layout.specs.Leaf.{nonzero}
-use Rattle.part_layout.specs.ReadLaws.{Slot, slot-read}
-use Rattle.part_layout.proofs.skip_entries.Statement.{statement}
-use Rattle.part_layout.proofs.skip_entries.Tie as tie
+use Rattle.slices.specs.ReadLaws.{Slot, slot-read}
+use Rattle.slices.proofs.skip_entries.Statement.{statement}
+use Rattle.slices.proofs.skip_entries.Tie as tie
 
 abbrev Inv-loop : tie.InvT-loop
 Inv-loop slots first seen₀ at₀ seen at = (seen ≤ first) × (drop seen (nonzero slots) ≡ nonzero (drop at slots))

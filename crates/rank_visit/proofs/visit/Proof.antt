@@ -1,14 +1,14 @@
--- `rank_walk::visit` meets its contract. Assumes nothing.
+-- `rank_visit::visit` meets its contract. Assumes nothing.
 use mathlib.Core.Path.{_≡_, sym, _∙_}
 use denote.Ref.{now}
 use Rattle.draw.specs.declared.Drawn.the-variants.{Face}
 use Rattle.draw.specs.Draw.{drawAt}
 use Rattle.rules.specs.declared.Comparison.the-variants.{Swapped}
 use Rattle.rules.specs.Compare.{compare}
-use Rattle.rank_walk.specs.VisitLaws.{visit-unchanged, visit-leaves, visit-enters, visit-passes, visit-ended}
+use Rattle.rank_visit.specs.VisitLaws.{visit-unchanged, visit-leaves, visit-enters, visit-passes, visit-ended}
 use borrow.Author.Needs.{needs}
-use Rattle.rank_walk.proofs.visit.Statement.{statement}
-use Rattle.rank_walk.proofs.visit.Tie as tie
+use Rattle.rank_visit.proofs.visit.Statement.{statement}
+use Rattle.rank_visit.proofs.visit.Tie as tie
 
 swapped : (c : tie.After-out) →
     let a = c .before .before .before .before .args in

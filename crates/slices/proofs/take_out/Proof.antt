@@ -5,10 +5,10 @@ use Prim.Native.Nat.{_+_, _-_, _≤_, _<_}
 use native.Mathlib.Omega.{arith}
 use borrow.Author.Needs.{needs}
 use lib.ListN.{drop}
-use Rattle.part_layout.specs.Pasted.{Pasted}
-use Rattle.part_layout.specs.PastedLaws.{pasted-none, pasted-is, shifted-left}
-use Rattle.part_layout.proofs.take_out.Statement.{statement}
-use Rattle.part_layout.proofs.take_out.Tie as tie
+use Rattle.slices.specs.Pasted.{Pasted}
+use Rattle.slices.specs.PastedLaws.{pasted-none, pasted-is, shifted-left}
+use Rattle.slices.proofs.take_out.Statement.{statement}
+use Rattle.slices.proofs.take_out.Tie as tie
 
 abbrev Inv-loop : tie.InvT-loop
 Inv-loop list₀ n i j₀ list j = (i ≤ j) × (j < n) × Pasted list₀ i (drop (i + 1) list₀) (j - i) list

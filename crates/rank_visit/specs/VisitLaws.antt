@@ -19,9 +19,9 @@ use Rattle.rules.specs.Tree.{Tree}
 use Rattle.rules.specs.Compare.{countAfter}
 use Rattle.rules.specs.Moves.{Leaves, Inside}
 use Rattle.rules.specs.Rules.{visit}
-use Rattle.rank_walk.specs.declared.Visited.{Visited}
-use Rattle.rank_walk.specs.declared.Visited.the-variants as visited
-use Rattle.rank_walk.specs.Walk.{visitAt, visitDrawn}
+use Rattle.rank_visit.specs.declared.Visited.{Visited}
+use Rattle.rank_visit.specs.declared.Visited.the-variants as visited
+use Rattle.rank_visit.specs.Visit.{visitAt, visitDrawn}
 
 -- ---- the run
 

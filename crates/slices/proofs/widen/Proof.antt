@@ -3,10 +3,10 @@ use Prim.Native.Nat.{_-_, _≤_}
 use native.Mathlib.Omega.{arith}
 use borrow.Author.Needs.{needs}
 use lib.ListN.{length}
-use Rattle.part_layout.specs.Pasted.{Pasted}
-use Rattle.part_layout.specs.PastedLaws.{copied-next, copied-all}
-use Rattle.part_layout.proofs.widen.Statement.{statement}
-use Rattle.part_layout.proofs.widen.Tie as tie
+use Rattle.slices.specs.Pasted.{Pasted}
+use Rattle.slices.specs.PastedLaws.{copied-next, copied-all}
+use Rattle.slices.proofs.widen.Statement.{statement}
+use Rattle.slices.proofs.widen.Tie as tie
 
 abbrev Inv-loop : tie.InvT-loop
 Inv-loop counts work₀ i₀ work i = (i ≤ length counts) × Pasted work₀ 0 counts i work

@@ -8,7 +8,7 @@ use Rattle.rules.specs.declared.Change.{Change}
 use Rattle.rules.specs.declared.Change.the-variants.{Insert, Delete}
 use Rattle.rules.specs.Compare.{countAfter}
 use Rattle.rules.specs.Rules.{InReach}
-use Rattle.part_layout.specs.ChangeList.{changeList}
+use Rattle.slices.specs.ChangeList.{changeList}
 
 pub length-changed : (change : Change) (e : ℕ) (list : List ℕ) → InReach change (length list)
     → length (changeList change e list) ≡ countAfter change (length list)

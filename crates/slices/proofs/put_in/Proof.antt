@@ -4,10 +4,10 @@ use Prim.Native.Nat.{_+_, _-_, _≤_}
 use native.Mathlib.Omega.{arith}
 use borrow.Author.Needs.{needs}
 use lib.ListN.{drop}
-use Rattle.part_layout.specs.Pasted.{Pasted}
-use Rattle.part_layout.specs.PastedLaws.{pasted-none, shifted-right, shifted-put}
-use Rattle.part_layout.proofs.put_in.Statement.{statement}
-use Rattle.part_layout.proofs.put_in.Tie as tie
+use Rattle.slices.specs.Pasted.{Pasted}
+use Rattle.slices.specs.PastedLaws.{pasted-none, shifted-right, shifted-put}
+use Rattle.slices.proofs.put_in.Statement.{statement}
+use Rattle.slices.proofs.put_in.Tie as tie
 
 abbrev Inv-loop : tie.InvT-loop
 Inv-loop list₀ n i e j₀ list j = (i ≤ j) × (j ≤ n) × Pasted list₀ (j + 1) (drop j list₀) (n - j) list

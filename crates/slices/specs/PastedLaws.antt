@@ -7,7 +7,7 @@ use native.Mathlib.Numerals.{add-one}
 use native.Mathlib.Omega.{arith}
 use lib.ListN.{length, getD, take, drop, set, replicate, length-drop, length-set, length-replicate, drop-of-length-le, getD-replicate, List·getD-append}
 use lib.Seq.{length-take-le, take-all, take-suc, drop-cons, set-at, getD-take, getD-drop, getD-append-add, paste-zero, paste-suc, length-paste-head}
-use Rattle.part_layout.specs.Pasted.{Pasted}
+use Rattle.slices.specs.Pasted.{Pasted}
 
 pub pasted-none : {old source : List ℕ} {at n : ℕ} → n ≡ 0 → Pasted old at source n old
 pasted-none {old} {source} {at} none = record { is = rw none (paste-zero old at source); kept = refl }

@@ -8,11 +8,11 @@ use borrow.Author.Needs.{needs}
 use denote.Ref.{now}
 use lib.ListN.{length, drop}
 use Rattle.layout.specs.Leaf.{nonzero}
-use Rattle.part_layout.specs.Pasted.{Pasted}
-use Rattle.part_layout.specs.PastedLaws.{pasted-none, pasted-is}
-use Rattle.part_layout.specs.ReadLaws.{Slot, slot-read, wanted-next}
-use Rattle.part_layout.proofs.read_out.Statement.{statement}
-use Rattle.part_layout.proofs.read_out.Tie as tie
+use Rattle.slices.specs.Pasted.{Pasted}
+use Rattle.slices.specs.PastedLaws.{pasted-none, pasted-is}
+use Rattle.slices.specs.ReadLaws.{Slot, slot-read, wanted-next}
+use Rattle.slices.proofs.read_out.Statement.{statement}
+use Rattle.slices.proofs.read_out.Tie as tie
 
 abbrev Inv-loop : tie.InvT-loop
 Inv-loop slots first count output₀ at₀ seen₀ output at seen =

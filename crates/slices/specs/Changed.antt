@@ -5,7 +5,7 @@ use Prim.Native.Nat.{ℕ}
 use lib.ListN.{length, take}
 use Rattle.rules.specs.declared.Change.{Change}
 use Rattle.rules.specs.Compare.{countAfter}
-use Rattle.part_layout.specs.ChangeList.{changeList}
+use Rattle.slices.specs.ChangeList.{changeList}
 
 -- The first entries of `new` are the first n of `old` with e put in, or with the entry at the rank taken out; nothing is said of the rest.
 pub record Changed (change : Change) (e n : ℕ) (old new : List ℕ) : Type 0 where
