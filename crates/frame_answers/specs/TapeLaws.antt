@@ -8,8 +8,8 @@ use native.Mathlib.Nat.{add-zero, add-comm}
 use lib.ListN.{length, getD, set, take, drop, replicate, length-append, length-drop, length-replicate, getD-replicate, List·getD-append, List·getD-eq-default}
 use lib.Seq.{getD-append-add, getD-drop, take-all}
 use Rattle.base.specs.CaseLaws.{lt-or-ge}
-use Rattle.part_layout.specs.Pasted.{Pasted}
-use Rattle.part_layout.specs.PastedLaws.{pasted-next, pasted-behind, pasted-is, copied-all}
+use Rattle.slices.specs.Pasted.{Pasted}
+use Rattle.slices.specs.PastedLaws.{pasted-next, pasted-behind, pasted-is, copied-all}
 use Rattle.frame_lines.specs.Frame.{wordAt}
 use Rattle.frame_answers.specs.Step.{readOff, lineWords}
 

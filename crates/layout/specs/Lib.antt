@@ -4,7 +4,6 @@ pub mod Layout
 pub mod Sheet
 pub mod Room
 pub mod Ready
-pub mod Check
 pub mod Quotient
 pub mod Examples
 pub mod LeafLaws
@@ -14,9 +13,3 @@ pub mod SheetLaws
 pub mod LeafLoop
 pub mod LeavesLoop
 pub mod GatherLoop
-pub mod LeafCheck
-pub mod LeavesCheck
-pub mod TreeCheck
-pub mod ZeroLaws
-pub mod CheckLaws
-pub mod StoreCheck

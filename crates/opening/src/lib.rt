@@ -24,8 +24,8 @@ pub fn examine(slots: &[u64], counts: &[u16], work: &mut [u32]) -> Opened
     if counts.len() != 256 {
         return Opened::Refused(Cause::Lengths);
     }
-    part_layout::widen(counts, work);
-    if !layout::is_sheet(1024, slots, work) {
+    slices::widen(counts, work);
+    if !sheet_test::is_sheet(1024, slots, work) {
         return Opened::Refused(Cause::NotASheet);
     }
     let n = work[1] as usize;

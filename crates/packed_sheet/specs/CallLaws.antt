@@ -21,7 +21,7 @@ use Rattle.rules.specs.Rules.{InReach, update}
 use Rattle.layout.specs.Layout.{Capacity, Store, layOut}
 use Rattle.layout.specs.Leaf.{nonzero}
 use Rattle.layout.specs.Sheet.{Contents, listOf, shapeOf, sheetTest, decode}
-use Rattle.part_layout.specs.ChangeList.{changeList}
+use Rattle.slices.specs.ChangeList.{changeList}
 use Rattle.outcomes.specs.declared.Cause.{Cause}
 use Rattle.outcomes.specs.declared.Cause.the-variants.{EntryZero, Rank, Full, OutputShort}
 use Rattle.outcomes.specs.declared.Answer.the-variants.{Changed, Checked, Placed, Refused, Entries}

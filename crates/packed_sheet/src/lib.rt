@@ -21,8 +21,8 @@ pub fn clear(slots: &mut [u64], counts: &mut [u16]) -> Answer
         return Answer::Refused(Cause::Lengths);
     }
     let zeros = [0u32; 256];
-    part_layout::zero_slots(slots, 0, 4224);
-    part_layout::narrow(&zeros, counts);
+    slices::zero_slots(slots, 0, 4224);
+    slices::narrow(&zeros, counts);
     Answer::Cleared
 }
 
@@ -79,7 +79,7 @@ pub fn read(slots: &[u64], counts: &[u16], first: usize, last: usize, output: &m
     match opening::admit_read(opened, first, last, output.len()) {
         Opened::Sheet { n: _, m: _ } => {
             let count = last - first + 1;
-            part_layout::read_out(slots, first, count, output);
+            slices::read_out(slots, first, count, output);
             Answer::Entries { count: count }
         }
         Opened::Refused(cause) => Answer::Refused(cause),

@@ -11,7 +11,7 @@ use Rattle.rules.specs.Rules.{atRank, InReach}
 use Rattle.rank_tree.specs.declared.Part.{Part}
 use Rattle.layout.specs.Leaf.{nonzero}
 use Rattle.layout.specs.Layout.{layLeaves}
-use Rattle.part_layout.specs.ChangeList.{changeList}
+use Rattle.slices.specs.ChangeList.{changeList}
 use Rattle.part_layout.specs.Region.{leavesOf}
 use Rattle.part_layout.specs.Plan.{partFrom, partLength, partCounts, zeroed, PartIn}
 

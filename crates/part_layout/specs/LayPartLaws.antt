@@ -17,8 +17,8 @@ use Rattle.rank_tree.specs.declared.Part.{Part}
 use Rattle.layout.specs.Leaf.{nonzero}
 use Rattle.layout.specs.Ready.{LeavesReady, GatherReady, Gathered}
 use Rattle.layout.specs.LayoutLaws.{layLeaves-take}
-use Rattle.part_layout.specs.ChangeList.{changeList}
-use Rattle.part_layout.specs.Changed.{Changed}
+use Rattle.slices.specs.ChangeList.{changeList}
+use Rattle.slices.specs.Changed.{Changed}
 use Rattle.part_layout.specs.Region.{leavesOf, leavesBefore}
 use Rattle.part_layout.specs.RegionLaws.{leaves-within}
 use Rattle.part_layout.specs.Plan.{partFrom, partLength, partCounts, zeroed}

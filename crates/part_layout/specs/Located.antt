@@ -13,7 +13,7 @@ use Rattle.rules.specs.Rules.{atRank, InReach}
 use Rattle.rank_tree.specs.declared.Part.{Part}
 use Rattle.rank_tree.specs.Counts.{Holds}
 use Rattle.layout.specs.Layout.{leafCounts, layLeaves}
-use Rattle.part_layout.specs.ChangeList.{changeList}
+use Rattle.slices.specs.ChangeList.{changeList}
 
 -- A range with n entries and tree t at a depth of a sheet of size M, `levels` above the leaves.
 pub record IsRange (M levels d n : ℕ) (t : Tree) : Type 0 where

@@ -21,10 +21,10 @@ use Rattle.rules.specs.ChangeLaws.{count-rank, rank-rank, rank-itself, right-re
 use Rattle.rank_tree.specs.declared.Part.{Part}
 use Rattle.rank_tree.specs.Counts.{Holds}
 use Rattle.rank_tree.specs.RangeLaws.{balanced-perfect}
-use Rattle.rank_tree.specs.Update.{Within}
+use Rattle.rank_tree.specs.Confined.{Within}
 use Rattle.layout.specs.Layout.{leafCounts, layLeaves}
 use Rattle.layout.specs.LayoutLaws.{leafCounts-total, length-leafCounts, length-layLeaves, layLeaves-node}
-use Rattle.part_layout.specs.ChangeList.{changeList}
+use Rattle.slices.specs.ChangeList.{changeList}
 use Rattle.part_layout.specs.Located.{IsRange, Located}
 
 -- ---- a changed list, parted where a half ends

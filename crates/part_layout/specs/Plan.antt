@@ -13,7 +13,7 @@ use Rattle.rank_tree.specs.declared.Part.{Part}
 use Rattle.rank_tree.specs.Counts.{shapeCounts}
 use Rattle.layout.specs.Leaf.{nonzero}
 use Rattle.layout.specs.Layout.{layLeaves, laySlots}
-use Rattle.part_layout.specs.ChangeList.{changeList}
+use Rattle.slices.specs.ChangeList.{changeList}
 use Rattle.part_layout.specs.Region.{leavesOf, leavesBefore}
 
 -- The first slot of the part in a sheet of size M, and its number of slots.

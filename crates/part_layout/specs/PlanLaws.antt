@@ -21,15 +21,15 @@ use Rattle.rank_tree.specs.Ranges.{Perfect}
 use Rattle.rank_tree.specs.Counts.{shapeCounts, Holds}
 use Rattle.rank_tree.specs.RangeLaws.{balanced-perfect}
 use Rattle.rank_tree.specs.ShapeCountLaws.{length-shapeCounts, shapeCounts-holds}
-use Rattle.rank_tree.specs.Update.{Confined}
+use Rattle.rank_tree.specs.Confined.{Confined}
 use Rattle.layout.specs.Leaf.{nonzero}
 use Rattle.layout.specs.Layout.{Capacity, leafCounts, layLeaves, padTo, laySlots}
 use Rattle.layout.specs.Sheet.{IsContents}
 use Rattle.layout.specs.Room.{Roomy}
 use Rattle.layout.specs.LayoutLaws.{holds-leaves, leafCounts-total, leafCounts-fit, nonzero-layLeaves}
 use Rattle.layout.specs.SheetLaws.{leaves-layOut}
-use Rattle.part_layout.specs.ChangeList.{changeList}
-use Rattle.part_layout.specs.ChangeListLaws.{length-changed}
+use Rattle.slices.specs.ChangeList.{changeList}
+use Rattle.slices.specs.ChangeListLaws.{length-changed}
 use Rattle.part_layout.specs.Region.{leavesOf, leavesBefore}
 use Rattle.part_layout.specs.Located.{IsRange, Located}
 use Rattle.part_layout.specs.LocatedLaws.{range-length, located}

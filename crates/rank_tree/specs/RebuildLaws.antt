@@ -1,14 +1,15 @@
 -- Laws of the rebuilding of a range, in the values that the code has: c candidates, the first at w, the balance entry b.
 -- Assumes nothing.
-use mathlib.Core.Path.{_≡_, refl, _∙_, subst}
+use mathlib.Core.Path.{_≡_, refl, ap, sym, _∙_, subst}
 use mathlib.Core.Logic.{_≢_, ⊎-elim}
-use mathlib.Core.List.{List}
+use mathlib.Core.List.{List, [], _∷_, _++_}
 use Prim.Native.Nat.{ℕ, zero, suc, _+_, _-_, _*_, _^_, _≤_, _<_}
 use native.Mathlib.Omega.{arith}
 use native.Mathlib.Numerals.{add-one}
 use native.Mathlib.Nat.{mul-le-mul-left, pow-succ'}
 use lib.Pow.{pow-pos}
-use lib.ListN.{set}
+use lib.ListN.{length, set, take, replicate, replicate-append-replicate}
+use lib.Seq.{take-all, take-suc-set}
 use Rattle.base.specs.CaseLaws.{le-or-gt}
 use Rattle.draw.specs.declared.Drawn.the-variants.{Face, Ended as DrawEnded}
 use Rattle.draw.specs.Draw.{drawAt}
@@ -181,3 +182,17 @@ module _ (M levels d n : ℕ) (tape : List ℕ) (at : ℕ) where
     unfolding RebuiltAs
     draw-ended c k counts c₁ ec e =
         rw (run-node M levels d n tape at above, run-ended (candidates M d) _ tape at (rw ec at e)) refl
+
+-- ---- all counts zero
+
+pub zero-more : (counts : List ℕ) (i : ℕ) → i < length counts → take i counts ≡ replicate i 0
+    → take (i + 1) (set counts i 0) ≡ replicate (i + 1) 0
+zero-more counts i h e =
+    ap (λ (j : ℕ). take j (set counts i 0)) (add-one i)
+    ∙ take-suc-set counts i 0 h
+    ∙ ap (λ (c : List ℕ). c ++ (0 ∷ [])) e
+    ∙ replicate-append-replicate i 1 0
+
+pub zero-all : (counts : List ℕ) (i room : ℕ) → length counts ≡ room → i ≡ room → take i counts ≡ replicate i 0
+    → counts ≡ replicate room 0
+zero-all counts i room el ei e = sym (take-all i counts (omega arith)) ∙ e ∙ ap (λ (j : ℕ). replicate j 0) ei

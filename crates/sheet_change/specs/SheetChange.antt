@@ -11,7 +11,7 @@ use Rattle.rules.specs.Compare.{countAfter}
 use Rattle.rules.specs.Rules.{InReach, update}
 use Rattle.layout.specs.Layout.{Capacity, Store, layOut}
 use Rattle.layout.specs.Sheet.{Contents, decode}
-use Rattle.part_layout.specs.ChangeList.{changeList}
+use Rattle.slices.specs.ChangeList.{changeList}
 use Rattle.outcomes.specs.declared.Cause.the-variants.{TapeEnded}
 use Rattle.outcomes.specs.declared.Answer.the-variants.{Changed}
 use Rattle.outcomes.specs.Outcome.{Outcome, refused}

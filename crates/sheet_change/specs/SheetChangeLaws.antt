@@ -15,17 +15,18 @@ use Rattle.rules.specs.Compare.{countAfter}
 use Rattle.rules.specs.Rules.{InReach, update}
 use Rattle.rules.specs.ShapeLaws.{update-ends}
 use Rattle.rank_tree.specs.declared.Part.{Part}
-use Rattle.rank_tree.specs.declared.Updated.{Updated}
-use Rattle.rank_tree.specs.declared.Updated.the-variants as updated
+use Rattle.rank_update.specs.declared.Updated.{Updated}
+use Rattle.rank_update.specs.declared.Updated.the-variants as updated
 use Rattle.rank_tree.specs.Counts.{readTree, shapeCounts}
 use Rattle.rank_tree.specs.RangeLaws.{balanced-perfect}
 use Rattle.rank_tree.specs.ShapeCountLaws.{length-shapeCounts, shapeCounts-read}
-use Rattle.rank_tree.specs.Update.{shapeIn, Ready, Confined, UpdatedAs}
+use Rattle.rank_tree.specs.Confined.{Confined}
+use Rattle.rank_update.specs.Update.{shapeIn, Ready, UpdatedAs}
 use Rattle.layout.specs.Layout.{Store, countOrder, laySlots, layCounts, layOut}
 use Rattle.layout.specs.Sheet.{IsContents, Contents, decode}
 use Rattle.layout.specs.SheetLaws.{decode-sound, length-slots}
-use Rattle.part_layout.specs.ChangeList.{changeList}
-use Rattle.part_layout.specs.ChangeListLaws.{length-changed}
+use Rattle.slices.specs.ChangeList.{changeList}
+use Rattle.slices.specs.ChangeListLaws.{length-changed}
 use Rattle.part_layout.specs.Plan.{Plan}
 use Rattle.part_layout.specs.PlanLaws.{plan}
 use Rattle.part_layout.specs.LayPart.{partEntries, layEntries, layPart, LayReady}

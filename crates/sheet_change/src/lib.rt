@@ -5,7 +5,7 @@ ghost use Rattle.outcomes.specs.Outcome.{storeOf, left};
 ghost use Rattle.sheet_change.specs.SheetChange.{Changeable, ChangedAs};
 use outcomes::Answer;
 use outcomes::Cause;
-use rank_tree::Updated;
+use rank_update::Updated;
 use rules::Change;
 use sizes::Size;
 
@@ -26,7 +26,7 @@ pub fn change(
         (left r (now (slots .exit)) (now (counts .exit)) []) ⌝ }
 {
     let after = rank_tree::count_after(change, n);
-    match rank_tree::update(change, n, m, work, tape) {
+    match rank_update::update(change, n, m, work, tape) {
         Updated::Done {
             m: size,
             part,
@@ -41,7 +41,7 @@ pub fn change(
                 e,
                 work,
             );
-            part_layout::narrow(work, counts);
+            slices::narrow(work, counts);
             Answer::Changed {
                 n: after,
                 words: next,

@@ -2,8 +2,8 @@
 use Prim.Native.Nat.{_-_, _≤_}
 use native.Mathlib.Omega.{arith}
 use borrow.Author.Needs.{needs}
-use Rattle.part_layout.specs.Pasted.{Pasted}
-use Rattle.part_layout.specs.PastedLaws.{pasted-none}
+use Rattle.slices.specs.Pasted.{Pasted}
+use Rattle.slices.specs.PastedLaws.{pasted-none}
 use Rattle.frame_answers.specs.Step.{lineWords}
 use Rattle.frame_answers.specs.TapeLaws.{add-words-next, add-words-done}
 use Rattle.frame_answers.proofs.add_words.Statement.{statement}

@@ -3,8 +3,8 @@ use Prim.Native.Nat.{_-_}
 use native.Mathlib.Omega.{arith}
 use borrow.Author.Needs.{needs}
 use lib.ListN.{length}
-use Rattle.part_layout.specs.Pasted.{Pasted}
-use Rattle.part_layout.specs.PastedLaws.{pasted-none}
+use Rattle.slices.specs.Pasted.{Pasted}
+use Rattle.slices.specs.PastedLaws.{pasted-none}
 use Rattle.frame_answers.specs.Step.{readOff}
 use Rattle.frame_answers.specs.TapeLaws.{read-off-next, read-off-done}
 use Rattle.frame_answers.proofs.read_off.Statement.{statement}

@@ -6,8 +6,7 @@ use borrow.Author.Needs.{needs}
 use denote.Ref.{now}
 use lib.ListN.{length, take, replicate, length-set}
 use Rattle.sizes.specs.Sizes.{height}
-use Rattle.rank_tree.specs.RebuildLaws.{rebuild-here}
-use Rattle.rank_tree.specs.UpdateLaws.{zero-more, zero-all}
+use Rattle.rank_tree.specs.RebuildLaws.{rebuild-here, zero-more, zero-all}
 use Rattle.rank_tree.proofs.fresh.Statement.{statement}
 use Rattle.rank_tree.proofs.fresh.Tie as tie
 

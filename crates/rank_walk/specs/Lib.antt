@@ -1,0 +1,3 @@
+-- The walk down a tree: definitions first, then its laws.
+pub mod Walk
+pub mod WalkLaws

@@ -1,0 +1,3 @@
+-- Lists of zeros: the test first, then its laws.
+pub mod AllZero
+pub mod ZeroLaws
