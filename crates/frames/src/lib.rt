@@ -8,6 +8,9 @@ ghost use Rattle.packed_sheet.specs.Opening.{storeOf};
 ghost use Rattle.frame_lines.specs.Frame.{kindOf, frameOf};
 ghost use Rattle.frame_answers.specs.Step.{answerTo, longest, stepOf};
 ghost use Rattle.frame_answers.specs.Gives.{keptOf, Gives};
+ghost use Rattle.answer_lines.specs.Reply.{bytesOf};
+ghost use Rattle.answer_lines.specs.Wrote.{Wrote};
+ghost use Rattle.frames.specs.Question.{Asks, repliesTo};
 ghost use Rattle.frames.specs.FrameStep.{frameStep};
 
 // The kind of a line of bytes without its LF: the first byte of a frame, or 255 where the line is no frame.
@@ -16,6 +19,20 @@ pub extern "C" fn frame_kind(line: &[u8]) -> u8
     ensures { λ r. ⌜ r ≡ kindOf (now (line .entry)) ⌝ }
 {
     frame_lines::decode(line).kind()
+}
+
+// Answers a frame that only asks.
+fn answer_question(frame: Frame, slots: &[u64], counts: &[u16], output: &mut [u8]) -> usize
+    requires frame { ⌜ Asks frame ⌝ }
+    requires room { ⌜ longest ≤ length (now output) ⌝ }
+    ensures { λ r. ⌜ Wrote (now (output .entry)) 0 (bytesOf (repliesTo frame (storeOf (now (slots .entry)) (now (counts .entry))))) (now (output .exit)) r ⌝ }
+{
+    match frame {
+        Frame::Read { first, last } => frame_answers::read_line(slots, counts, first, last, output),
+        Frame::Print => frame_answers::print_line(slots, counts, output),
+        Frame::Place { rank } => frame_answers::place_line(slots, counts, rank, output),
+        _ => frame_answers::answer(output, 255, 8, counts),
+    }
 }
 
 // Answers a frame.
@@ -48,13 +65,6 @@ fn answer_frame(
             rank,
             output,
         ),
-        Frame::Read { first, last } => {
-            let bytes = frame_answers::read_line(slots, counts, first, last, output);
-            Stepped {
-                bytes: bytes,
-                waiting: waiting,
-            }
-        }
         Frame::Tape { words } => frame_answers::tape_line(
             line,
             words,
@@ -64,13 +74,6 @@ fn answer_frame(
             waiting,
             output,
         ),
-        Frame::Print => {
-            let bytes = frame_answers::print_line(slots, counts, output);
-            Stepped {
-                bytes: bytes,
-                waiting: waiting,
-            }
-        }
         Frame::Clear => {
             let bytes = frame_answers::clear_line(slots, counts, output);
             Stepped {
@@ -78,15 +81,8 @@ fn answer_frame(
                 waiting: waiting,
             }
         }
-        Frame::Place { rank } => {
-            let bytes = frame_answers::place_line(slots, counts, rank, output);
-            Stepped {
-                bytes: bytes,
-                waiting: waiting,
-            }
-        }
-        Frame::NoFrame => {
-            let bytes = frame_answers::answer(output, 255, 8, counts);
+        _ => {
+            let bytes = answer_question(frame, slots, counts, output);
             Stepped {
                 bytes: bytes,
                 waiting: waiting,
