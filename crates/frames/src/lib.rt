@@ -29,7 +29,7 @@ fn answer_question(frame: Frame, slots: &[u64], counts: &[u16], output: &mut [u8
 {
     match frame {
         Frame::Read { first, last } => frame_answers::read_line(slots, counts, first, last, output),
-        Frame::Print => frame_answers::print_line(slots, counts, output),
+        Frame::Print => print_lines::print_line(slots, counts, output),
         Frame::Place { rank } => frame_answers::place_line(slots, counts, rank, output),
         _ => frame_answers::answer(output, 255, 8, counts),
     }
@@ -55,9 +55,9 @@ fn answer_frame(
 {
     match frame {
         Frame::Insert { rank, entry } => {
-            frame_answers::insert_line(slots, counts, tape, waiting, rank, entry, output)
+            change_lines::insert_line(slots, counts, tape, waiting, rank, entry, output)
         }
-        Frame::Delete { rank } => frame_answers::delete_line(
+        Frame::Delete { rank } => change_lines::delete_line(
             slots,
             counts,
             tape,

@@ -1,0 +1,62 @@
+-- `delete_line` meets its contract. Assumes nothing.
+use borrow.Author.Needs.{needs}
+use mathlib.Core.Path.{sym, refl}
+use lib.Seq.{length-take-le}
+use Rattle.packed_sheet.specs.Call.{returned, delete}
+use Rattle.packed_sheet.specs.Outcome.{answerOf}
+use Rattle.change_lines.specs.ChangeLaws.{changed-gives, words-waiting}
+use Rattle.change_lines.proofs.delete_line.Statement.{statement}
+use Rattle.change_lines.proofs.delete_line.Tie as tie
+
+slice-reshare-prefix-delete : tie.Need-slice-reshare-prefix-delete
+slice-reshare-prefix-delete c = search needs
+
+slice-aggregate-delete : tie.Need-slice-aggregate-delete
+slice-aggregate-delete c = sym (length-take-le _ _ (search needs))
+
+delete-requires : tie.Need-delete-requires
+delete-requires c κs = search needs
+
+returned-requires : tie.Need-returned-requires
+returned-requires c κs = search needs
+
+change-answer-requires : tie.Need-change-answer-requires
+unfolding answerOf
+change-answer-requires c κs =
+    let back = c .before .before .before .before in (
+      words-waiting _ _ _ _ _ _ _ _ (back .before .before .before .before .before .delete .ensures) (back .returned .ensures) (λ list words. refl) (search needs),
+      (search needs, search needs),
+    )
+
+same-length : tie.Need-same-length
+same-length c = search needs
+
+same-length-2 : tie.Need-same-length-2
+same-length-2 c = search needs
+
+same-length-3 : tie.Need-same-length-3
+same-length-3 c = search needs
+
+same-length-4 : tie.Need-same-length-4
+same-length-4 c = search needs
+
+returns : tie.Need-returns
+returns c =
+    let last = c .before .before .before .before in
+    let back = last .before .before .before .before .before in
+    changed-gives _ _ _ _ _ _ _ _ (back .before .before .before .before .before .delete .ensures) (back .returned .ensures) _ (last .change-answer .ensures)
+
+pub delete-line-spec : {M : Type 1} → statement M
+delete-line-spec =
+    tie.close
+    (tie.spec
+    slice-reshare-prefix-delete
+    slice-aggregate-delete
+    delete-requires
+    returned-requires
+    change-answer-requires
+    same-length
+    same-length-2
+    same-length-3
+    same-length-4
+    returns)
