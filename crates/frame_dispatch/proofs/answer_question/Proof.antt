@@ -7,10 +7,10 @@ use borrow.Author.Needs.{needs}
 use Rattle.frame_lines.proofs.Frame.{the-type}
 use Rattle.frame_lines.specs.declared.Frame.{Frame}
 use Rattle.frame_lines.specs.declared.Frame.the-variants.{Insert, Delete, Read, Tape, Print, Clear, Place, NoFrame}
-use Rattle.frames.specs.Question.{Asks}
-use Rattle.frames.specs.QuestionLaws.{read-replied, print-replied, place-replied, none-replied}
-use Rattle.frames.proofs.answer_question.Statement.{statement}
-use Rattle.frames.proofs.answer_question.Tie as tie
+use Rattle.frame_dispatch.specs.Question.{Asks}
+use Rattle.frame_dispatch.specs.QuestionLaws.{read-replied, print-replied, place-replied, none-replied}
+use Rattle.frame_dispatch.proofs.answer_question.Statement.{statement}
+use Rattle.frame_dispatch.proofs.answer_question.Tie as tie
 
 -- The last arm is of the line that is no frame.
 no-frame : (frame : Frame) → Asks frame → OneOf (0 ∷ 1 ∷ 3 ∷ 5 ∷ 7 ∷ []) (tagOf the-type frame) → frame ≡ NoFrame

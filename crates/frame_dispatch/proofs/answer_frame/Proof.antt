@@ -10,10 +10,10 @@ use Rattle.frame_lines.specs.declared.Frame.the-variants.{Insert, Delete, Read,
 use Rattle.frame_lines.specs.Frame.{wordsOf}
 use Rattle.frame_answers.specs.Step.{answerTo}
 use Rattle.frame_answers.specs.StepLaws.{cleared-gives}
-use Rattle.frames.specs.Question.{Asks}
-use Rattle.frames.specs.QuestionLaws.{question-gives}
-use Rattle.frames.proofs.answer_frame.Statement.{statement}
-use Rattle.frames.proofs.answer_frame.Tie as tie
+use Rattle.frame_dispatch.specs.Question.{Asks}
+use Rattle.frame_dispatch.specs.QuestionLaws.{question-gives}
+use Rattle.frame_dispatch.proofs.answer_frame.Statement.{statement}
+use Rattle.frame_dispatch.proofs.answer_frame.Tie as tie
 
 -- The last arm is of the frames that keep everything.
 asks-rest : (frame : Frame) → OneOf (2 ∷ 4 ∷ 6 ∷ 7 ∷ []) (tagOf the-type frame) → Asks frame

@@ -14,7 +14,7 @@ use Rattle.answer_lines.specs.Wrote.{Wrote}
 use Rattle.frame_answers.specs.Step.{answerTo, keeping, entryCount, readLine, placeLine, printLines}
 use Rattle.frame_answers.specs.StepLaws.{one-line, printed-gives}
 use Rattle.frame_answers.specs.Gives.{keptOf, Gives}
-use Rattle.frames.specs.Question.{Asks, repliesTo}
+use Rattle.frame_dispatch.specs.Question.{Asks, repliesTo}
 
 -- ---- what the answer is, by the frame
 
