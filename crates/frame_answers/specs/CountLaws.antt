@@ -8,8 +8,8 @@ use Rattle.rank_tree.specs.ShapeCountLaws.{shapeCounts-total}
 use Rattle.layout.specs.Layout.{Store, countOrder, layCounts, layOut}
 use Rattle.layout.specs.Sheet.{Contents, decode}
 use Rattle.layout.specs.SheetLaws.{decode-sound}
-use Rattle.packed_sheet.specs.Call.{clubs}
-use Rattle.packed_sheet.specs.OpeningLaws.{clubs-roomy}
+use Rattle.outcomes.specs.Call.{clubs}
+use Rattle.outcomes.specs.ClubsLaws.{clubs-roomy}
 use Rattle.frame_answers.specs.Step.{entryCount}
 
 pub count-is : (store : Store) (c : Contents) → decode clubs store ≡ some c → entryCount store ≡ length (c .list)

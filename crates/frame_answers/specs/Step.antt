@@ -5,12 +5,13 @@ use lib.ListN.{length, getD, take, drop, replicate}
 use Rattle.base.specs.Cases.{ifEq, ifLt}
 use Rattle.sizes.specs.Sizes.{height, leafSlots}
 use Rattle.layout.specs.Layout.{Store}
-use Rattle.packed_sheet.specs.declared.Returned.{Returned}
-use Rattle.packed_sheet.specs.Call.{clear, insert, delete, read, place, check, returned, clubs}
-use Rattle.packed_sheet.specs.Outcome.{Outcome, outcome}
+use Rattle.outcomes.specs.declared.Returned.{Returned}
+use Rattle.outcomes.specs.Call.{clear, insert, delete, read, place, check, returned, clubs}
+use Rattle.outcomes.specs.Outcome.{Outcome, outcome}
 use Rattle.frame_lines.specs.declared.Frame.{Frame}
 use Rattle.frame_lines.specs.declared.Frame.the-variants.{Insert, Delete, Read, Tape, Print, Clear, Place, NoFrame}
-use Rattle.frame_lines.specs.Frame.{frameOf, wordAt}
+use Rattle.frame_lines.specs.Frame.{frameOf}
+use Rattle.waiting_tape.specs.Tape.{readOff, lineWords}
 use Rattle.answer_lines.specs.Reply.{Reply, brief, entries, placed, sheet, leaf, bytesOf}
 
 -- What the program keeps between two lines: the store, and the tape, of whose words the first `waiting` wait, the oldest first.
@@ -33,10 +34,6 @@ unfoldable pub keeping : Kept → Reply → Answered
 keeping k reply = record { replies = reply ∷ []; kept = k }
 
 -- ---- insert and delete
-
--- The tape after a number of its words are read: these leave it, the others move to its front, and zeros follow them.
-unfoldable pub readOff : ℕ → List ℕ → List ℕ
-readOff words tape = drop words tape ++ replicate words 0
 
 -- The answer to a call that reads words; a refused one has read none.
 unfoldable pub changedBy : ℕ → Kept → Returned → Store → Answered
@@ -72,11 +69,6 @@ cleared k o = record {
 }
 
 -- ---- tape
-
--- The words k to k + c - 1 of a tape line.
-unfoldable pub lineWords : List ℕ → ℕ → ℕ → List ℕ
-lineWords line k zero = []
-lineWords line k (suc c) = wordAt line k ∷ lineWords line (suc k) c
 
 -- The words of the line wait behind the others, unless more than 1,024 would wait (cause 9).
 unfoldable pub taped : List ℕ → ℕ → Kept → Answered

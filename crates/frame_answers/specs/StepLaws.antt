@@ -2,53 +2,27 @@
 use mathlib.Core.Path.{_≡_, refl, ap, sym, _∙_}
 use mathlib.Core.Logic.{_≢_}
 use mathlib.Core.List.{List, [], _∷_, _++_, append-nil}
-use Prim.Native.Nat.{ℕ, _+_, _-_, _≤_, _<_}
+use Prim.Native.Nat.{ℕ, _+_, _≤_, _<_}
 use native.Mathlib.Nat.{zero-add}
 use lib.ListN.{length, getD, take, drop}
-use lib.Seq.{length-take-le}
 use Rattle.base.specs.CaseLaws.{ifEq-yes, ifEq-no, ifLt-yes, ifLt-no}
 use Rattle.layout.specs.Layout.{Store}
-use Rattle.packed_sheet.specs.declared.Returned.{Returned}
-use Rattle.packed_sheet.specs.declared.Answer.{Answer}
-use Rattle.packed_sheet.specs.Call.{Call, read, returned, clubs}
-use Rattle.packed_sheet.specs.Outcome.{Outcome, outcome, answerOf}
-use Rattle.packed_sheet.specs.Opening.{storeOf, left}
+use Rattle.outcomes.specs.declared.Returned.{Returned}
+use Rattle.outcomes.specs.declared.Answer.{Answer}
+use Rattle.outcomes.specs.Call.{read, returned, clubs}
+use Rattle.outcomes.specs.Outcome.{storeOf, left, Outcome, outcome}
 use Rattle.frame_lines.specs.Frame.{frameOf}
 use Rattle.answer_lines.specs.Reply.{Reply, brief, entries, placed, lineOf, bytesOf}
 use Rattle.answer_lines.specs.Wrote.{Wrote}
-use Rattle.frame_answers.specs.Step.{Kept, Step, entryCount, keeping, readOff, changedBy, changed, readReply, readLine, placeReply, placeLine, clearLine, cleared, lineWords, taped, answerTo, longest, handed, stepOf}
+use Rattle.waiting_tape.specs.Tape.{lineWords}
+use Rattle.frame_answers.specs.Step.{Kept, Step, entryCount, keeping, readReply, readLine, placeReply, placeLine, clearLine, cleared, taped, answerTo, longest, handed, stepOf}
 use Rattle.frame_answers.specs.Gives.{keptOf, Gives, ClearGives}
-use Rattle.packed_sheet.specs.AnswerLaws.{words-within, entries-within}
+use Rattle.outcomes.specs.AnswerLaws.{entries-within}
 
 -- An answer of one line.
 pub one-line : {old new : List ℕ} {at next : ℕ} (reply : Reply) → Wrote old at (lineOf reply) new next → Wrote old at (bytesOf (reply ∷ [])) new next
 unfolding bytesOf
 one-line reply w = rw (append-nil (lineOf reply)) w
-
--- ---- insert and delete
-
-pub change-gives : (kind waiting : ℕ) (back : Returned) (slots counts tape tape′ : List ℕ) {output output′ : List ℕ} {bytes : ℕ}
-    → tape′ ≡ readOff (back .second) tape
-    → Wrote output 0 (lineOf (brief kind (back .number) (getD counts 1 0))) output′ bytes
-    → Gives (changedBy kind (keptOf (storeOf slots counts) tape waiting) back (storeOf slots counts)) output bytes (waiting - back .second)
-    (storeOf slots counts) tape′ output′
-unfolding changedBy entryCount
-change-gives kind waiting back slots counts tape tape′ e w = record { kept = rw e; wrote = one-line _ w }
-
-module _ (call : Call) (store : Store) (tape : List ℕ) (waiting : ℕ) (given : Answer) (slots counts : List ℕ) (back : Returned)
-    (done : left given slots counts [] ≡ outcome clubs call (take waiting tape) store []) (is : back ≡ returned given) where
-  pub changed-gives : (kind : ℕ) {output output′ tape′ : List ℕ} {bytes waiting′ : ℕ} {store′ : Store}
-      → Gives (changedBy kind (keptOf (storeOf slots counts) tape waiting) back (storeOf slots counts)) output bytes waiting′ store′ tape′ output′
-      → Gives (changed kind (keptOf store tape waiting) (outcome clubs call (take waiting tape) store [])) output bytes waiting′ store′ tape′ output′
-  unfolding changed changedBy
-  changed-gives kind g = rw (← done) (rw is at g)
-
-  -- no more words are read than wait
-  pub words-waiting : ((list : List ℕ) (words : ℕ) → returned (answerOf call list words) .second ≡ words) → waiting ≤ length tape
-      → back .second ≤ waiting
-  words-waiting second l =
-      let most = words-within clubs call (take waiting tape) store [] second in
-      rw (is, ← length-take-le waiting tape l) (rw (← done) at most)
 
 -- ---- read, place and clear
 

@@ -1,13 +1,10 @@
 // The frames of the program: one step on a line, and the reading of a line for programs in C.
 use frame_answers::Stepped;
-use frame_lines::Frame;
 ghost use mathlib.Core.Path.{_≡_};
-ghost use Prim.Native.Nat.{_≤_};
-ghost use lib.ListN.{length};
-ghost use Rattle.packed_sheet.specs.Opening.{storeOf};
-ghost use Rattle.frame_lines.specs.Frame.{kindOf, frameOf};
-ghost use Rattle.frame_answers.specs.Step.{answerTo, longest, stepOf};
-ghost use Rattle.frame_answers.specs.Gives.{keptOf, Gives};
+ghost use Rattle.outcomes.specs.Outcome.{storeOf};
+ghost use Rattle.frame_lines.specs.Frame.{kindOf};
+ghost use Rattle.frame_answers.specs.Step.{stepOf};
+ghost use Rattle.frame_answers.specs.Gives.{keptOf};
 ghost use Rattle.frames.specs.FrameStep.{frameStep};
 
 // The kind of a line of bytes without its LF: the first byte of a frame, or 255 where the line is no frame.
@@ -16,83 +13,6 @@ pub extern "C" fn frame_kind(line: &[u8]) -> u8
     ensures { λ r. ⌜ r ≡ kindOf (now (line .entry)) ⌝ }
 {
     frame_lines::decode(line).kind()
-}
-
-// Answers a frame.
-fn answer_frame(
-    frame: Frame,
-    line: &[u8],
-    slots: &mut [u64],
-    counts: &mut [u16],
-    tape: &mut [u32],
-    waiting: usize,
-    output: &mut [u8],
-) -> Stepped
-    requires frame { ⌜ frame ≡ frameOf (now line) ⌝ }
-    requires tape { ⌜ length (now tape) ≡ 1024 ⌝ }
-    requires waiting { ⌜ waiting ≤ 1024 ⌝ }
-    requires room { ⌜ longest ≤ length (now output) ⌝ }
-    ensures { λ r. ⌜ Gives
-        (answerTo frame (now (line .entry)) (keptOf (storeOf (now (slots .entry)) (now (counts .entry))) (now (tape .entry)) waiting))
-        (now (output .entry)) (r .bytes) (r .waiting) (storeOf (now (slots .exit)) (now (counts .exit))) (now (tape .exit)) (now (output .exit)) ⌝ }
-{
-    match frame {
-        Frame::Insert { rank, entry } => {
-            frame_answers::insert_line(slots, counts, tape, waiting, rank, entry, output)
-        }
-        Frame::Delete { rank } => frame_answers::delete_line(
-            slots,
-            counts,
-            tape,
-            waiting,
-            rank,
-            output,
-        ),
-        Frame::Read { first, last } => {
-            let bytes = frame_answers::read_line(slots, counts, first, last, output);
-            Stepped {
-                bytes: bytes,
-                waiting: waiting,
-            }
-        }
-        Frame::Tape { words } => frame_answers::tape_line(
-            line,
-            words,
-            slots,
-            counts,
-            tape,
-            waiting,
-            output,
-        ),
-        Frame::Print => {
-            let bytes = frame_answers::print_line(slots, counts, output);
-            Stepped {
-                bytes: bytes,
-                waiting: waiting,
-            }
-        }
-        Frame::Clear => {
-            let bytes = frame_answers::clear_line(slots, counts, output);
-            Stepped {
-                bytes: bytes,
-                waiting: waiting,
-            }
-        }
-        Frame::Place { rank } => {
-            let bytes = frame_answers::place_line(slots, counts, rank, output);
-            Stepped {
-                bytes: bytes,
-                waiting: waiting,
-            }
-        }
-        Frame::NoFrame => {
-            let bytes = frame_answers::answer(output, 255, 8, counts);
-            Stepped {
-                bytes: bytes,
-                waiting: waiting,
-            }
-        }
-    }
 }
 
 // Answers a line, given without its LF. The answer stands at the front of the output. The tape has 1,024 words, of which the first
@@ -122,7 +42,7 @@ pub fn step(
         return nothing;
     }
     let frame = frame_lines::decode(line);
-    answer_frame(frame, line, slots, counts, tape, waiting, output)
+    frame_dispatch::answer_frame(frame, line, slots, counts, tape, waiting, output)
 }
 
 // The step for programs in C: the number of words that wait stands in a slice of one number, before the step and after it. Where that

@@ -13,15 +13,16 @@ use Rattle.rank_tree.specs.Counts.{writeTree, readTree, shapeCounts}
 use Rattle.layout.specs.Leaf.{slotOf, place, spread, nonzero}
 use Rattle.layout.specs.Layout.{leafCounts, layLeaves, padTo, countOrder, laySlots, layCounts, layOut}
 use Rattle.layout.specs.Sheet.{listOf, shapeOf, balancedTest, shapeTest, sheetTest, decode}
-use Rattle.packed_sheet.specs.Call.{listAfter}
-use Rattle.packed_sheet.specs.Causes.{firstOf, lengthsWrong, contentsFor, argumentCause, byArguments, byContents, decision}
-use Rattle.packed_sheet.specs.Outcome.{changed, effect, answerOf, entriesOf, refused, finished, outcomeBy, outcome}
+use Rattle.outcomes.specs.Call.{listAfter}
+use Rattle.outcomes.specs.Causes.{firstOf, lengthsWrong, contentsFor, argumentCause, byArguments, byContents, decision}
+use Rattle.outcomes.specs.Outcome.{changed, effect, answerOf, entriesOf, refused, finished, outcomeBy, outcome}
 use Rattle.frame_lines.specs.Frame.{isHexDigit, hexValue, allHex, isHexLine, field, ofLength, insertOf, deleteOf, readOf, placeOf, tapeOf, formOf, frameOf, wordAt}
 use Rattle.answer_lines.specs.Reply as reply
+use Rattle.waiting_tape.specs.Tape.{readOff, lineWords}
 use Rattle.frame_answers.specs.Step as step
 use Rattle.marks.specs.Text.{bytes, ended}
 use Rattle.marks.specs.Marks.{face, among, byRules, started, computed, marks}
 
 pub marks-hold : map computed marks ≡ marks
-unfolding marks computed byRules face among started bytes ended step.answersTo step.answerTo step.changed step.changedBy step.entryCount step.readOff step.keeping step.taped step.lineWords step.leafReply step.leafReplies step.leavesOf step.sheetReplies step.printReplies step.printLines reply.hexDigit reply.digits reply.entryDigits reply.header reply.encode reply.lineOf reply.bytesOf frameOf formOf tapeOf placeOf readOf deleteOf insertOf ofLength field isHexLine allHex hexValue isHexDigit wordAt outcome outcomeBy finished refused answerOf entriesOf effect changed decision byContents byArguments contentsFor argumentCause lengthsWrong firstOf listAfter update reshape fresh sizeStep insertSize deleteSize grow shrink rebuild walk countAfter runAt afterDraw drawAt drawFrom scan ifEq ifLt ifLe _>>=_ decode sheetTest shapeTest balancedTest shapeOf listOf nonzero readTree equalLists layOut laySlots layCounts padTo layLeaves leafCounts spread place slotOf countOrder shapeCounts writeTree sizes.doublings sizes.ceilDiv sizes.digits sizes.height sizes.leafSlots sizes.slots sizes.candidates sizes.windowStart
+unfolding marks computed byRules face among started bytes ended step.answersTo step.answerTo step.changed step.changedBy step.entryCount readOff step.keeping step.taped lineWords step.leafReply step.leafReplies step.leavesOf step.sheetReplies step.printReplies step.printLines reply.hexDigit reply.digits reply.entryDigits reply.header reply.encode reply.lineOf reply.bytesOf frameOf formOf tapeOf placeOf readOf deleteOf insertOf ofLength field isHexLine allHex hexValue isHexDigit wordAt outcome outcomeBy finished refused answerOf entriesOf effect changed decision byContents byArguments contentsFor argumentCause lengthsWrong firstOf listAfter update reshape fresh sizeStep insertSize deleteSize grow shrink rebuild walk countAfter runAt afterDraw drawAt drawFrom scan ifEq ifLt ifLe _>>=_ decode sheetTest shapeTest balancedTest shapeOf listOf nonzero readTree equalLists layOut laySlots layCounts padTo layLeaves leafCounts spread place slotOf countOrder shapeCounts writeTree sizes.doublings sizes.ceilDiv sizes.digits sizes.height sizes.leafSlots sizes.slots sizes.candidates sizes.windowStart
 marks-hold = refl

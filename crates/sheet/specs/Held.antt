@@ -1,7 +1,7 @@
 -- What the program holds between two lines lies within its buffers. Definitions only: they assume nothing.
-use Prim.Native.Nat.{ℕ, _≤_}
+use Prim.Native.Nat.{_≤_}
 use Rattle.sheet.specs.declared.State.{State}
 
--- Bytes of a line that is still open, bytes of answers, and words of the tape, with a line buffer and an output of these lengths.
-abbrev pub Held : ℕ → ℕ → State → Type 0
-Held line output state = (state .have ≤ line) × (state .at ≤ output) × (state .waiting ≤ 1024)
+-- Bytes of a line that is still open, bytes of answers, and words of the tape: no more than the line buffer, the output and the tape hold.
+abbrev pub Held : State → Type 0
+Held state = (state .have ≤ 256) × (state .at ≤ 262144) × (state .waiting ≤ 1024)

@@ -1,5 +1,5 @@
 // The program `sheet`: reads frames from standard input, a line each, and answers them on standard output.
-ghost use Prim.Native.Nat.{_+_, _≤_};
+ghost use Prim.Native.Nat.{_+_, _<_, _≤_};
 ghost use lib.ListN.{length};
 ghost use Rattle.frame_answers.specs.Step.{longest};
 ghost use Rattle.sheet.specs.Held.{Held};
@@ -9,12 +9,21 @@ use line_input::Collected;
 // The longest answer, a print of the largest sheet, has so many bytes.
 const LONGEST: usize = 69012;
 
+// The output has room for so many bytes.
+const OUTPUT: usize = 262144;
+
 // How many bytes of the line that is still open, words of the tape and bytes of answers are held, and whether a write has failed.
 struct State {
     have: usize,
     waiting: usize,
     at: usize,
     failed: bool,
+}
+
+// How many bytes of the input were read, and whether it has ended.
+struct Chunk {
+    bytes: usize,
+    last: bool,
 }
 
 // Writes the answers that are held.
@@ -41,52 +50,71 @@ fn flush(output: &[u8], state: State) -> State
 }
 
 // Writes the answers that are held if the longest one might not fit behind them.
-fn make_room(output: &[u8], state: State) -> State
-    requires held { ⌜ state .at ≤ length (now output) ⌝ }
-    requires room { ⌜ longest ≤ length (now output) ⌝ }
-    ensures { λ r. ⌜ (r .have ≤ state .have) × (r .at + longest ≤ length (now (output .entry))) × (r .waiting ≤ state .waiting) ⌝ }
+fn make_room(output: &[u8; OUTPUT], state: State) -> State
+    requires { ⌜ Held state ⌝ }
+    ensures { λ r. ⌜ Held r × (r .at + longest ≤ 262144) ⌝ }
 {
-    if output.len() - state.at < LONGEST {
+    if OUTPUT - state.at < LONGEST {
         return flush(output, state);
     }
     state
 }
 
-// One step of the frames, which always has room for its answer.
+// One step of the frames on a line of so many bytes. Its answer, which always has room, goes behind the first `at` bytes of the output.
 fn step(
     line: &[u8],
+    have: usize,
     slots: &mut [u64; 4224],
     counts: &mut [u16; 256],
     tape: &mut [u32; 1024],
     waiting: usize,
     output: &mut [u8],
+    at: usize,
 ) -> Stepped
-    requires room { ⌜ longest ≤ length (now output) ⌝ }
+    requires line { ⌜ have ≤ length (now line) ⌝ }
     requires words { ⌜ waiting ≤ 1024 ⌝ }
-    ensures { λ r. ⌜ (r .bytes ≤ length (now (output .entry))) × (r .waiting ≤ 1024) ⌝ }
+    requires room { ⌜ at + longest ≤ length (now output) ⌝ }
+    ensures { λ r. ⌜ (at + r .bytes ≤ length (now (output .entry))) × (r .waiting ≤ 1024) ⌝ }
 {
-    frames::step(line, slots, counts, tape, waiting, output)
+    frames::step(
+        &line[..have],
+        slots,
+        counts,
+        tape,
+        waiting,
+        &mut output[at..],
+    )
 }
 
-// Answers a line, if no write has failed.
+// Answers the line that was collected, if it has ended and no write has failed.
 fn answer(
-    line: &[u8],
+    collected: Collected,
+    line: &[u8; 256],
     slots: &mut [u64; 4224],
     counts: &mut [u16; 256],
     tape: &mut [u32; 1024],
-    output: &mut [u8],
+    output: &mut [u8; OUTPUT],
     state: State,
 ) -> State
-    requires held { ⌜ Held (state .have) (length (now output)) state ⌝ }
-    requires room { ⌜ longest ≤ length (now output) ⌝ }
-    ensures { λ r. ⌜ Held (state .have) (length (now (output .entry))) r ⌝ }
+    requires collected { ⌜ collected .have ≤ 256 ⌝ }
+    requires held { ⌜ Held state ⌝ }
+    ensures { λ r. ⌜ Held r ⌝ }
 {
+    let have = collected.have;
+    if !collected.ended {
+        return State {
+            have: have,
+            waiting: state.waiting,
+            at: state.at,
+            failed: state.failed,
+        };
+    }
     let room = make_room(output, state);
     if room.failed {
         return room;
     }
     let at = room.at;
-    let stepped = step(line, slots, counts, tape, room.waiting, &mut output[at..]);
+    let stepped = step(line, have, slots, counts, tape, room.waiting, output, at);
     State {
         have: 0,
         waiting: stepped.waiting,
@@ -95,96 +123,78 @@ fn answer(
     }
 }
 
-// Answers the line that was collected if it has ended.
-fn answer_ended(
-    collected: Collected,
-    line: &[u8],
-    slots: &mut [u64; 4224],
-    counts: &mut [u16; 256],
-    tape: &mut [u32; 1024],
-    output: &mut [u8],
-    state: State,
-) -> State
-    requires collected { ⌜ collected .have ≤ length (now line) ⌝ }
-    requires held { ⌜ Held (length (now line)) (length (now output)) state ⌝ }
-    requires room { ⌜ longest ≤ length (now output) ⌝ }
-    ensures { λ r. ⌜ Held (length (now (line .entry))) (length (now (output .entry))) r ⌝ }
-{
-    let have = collected.have;
-    if collected.ended {
-        return answer(&line[..have], slots, counts, tape, output, state);
-    }
-    State {
-        have: have,
-        waiting: state.waiting,
-        at: state.at,
-        failed: state.failed,
-    }
-}
-
-// Answers the lines that end in a chunk of the input, and writes the answers.
+// Answers the lines that end in the first n bytes of the input, and writes the answers.
 fn answer_chunk(
-    chunk: &[u8],
-    line: &mut [u8],
+    input: &[u8],
+    n: usize,
+    line: &mut [u8; 256],
     slots: &mut [u64; 4224],
     counts: &mut [u16; 256],
     tape: &mut [u32; 1024],
-    output: &mut [u8],
+    output: &mut [u8; OUTPUT],
     before: State,
 ) -> State
-    requires held { ⌜ Held (length (now line)) (length (now output)) before ⌝ }
-    requires room { ⌜ longest ≤ length (now output) ⌝ }
-    ensures { λ r. ⌜ Held (length (now (line .entry))) (length (now (output .entry))) r ⌝ }
+    requires chunk { ⌜ n ≤ length (now input) ⌝ }
+    requires held { ⌜ Held before ⌝ }
+    ensures { λ r. ⌜ Held r ⌝ }
 {
+    let chunk = &input[..n];
     let mut state = before;
     let mut from = 0;
-    while from < chunk.len() && !state.failed {
+    while from < n {
         let collected = line_input::collect(chunk, from, line, state.have);
         from = collected.next;
-        state = answer_ended(collected, line, slots, counts, tape, output, state);
+        state = answer(collected, line, slots, counts, tape, output, state);
     }
     flush(output, state)
 }
 
-// Reads a chunk of the input; how many bytes it has, 0 at the end of the input.
-fn read_chunk(input: &mut [u8]) -> usize
-    ensures { λ r. ⌜ r ≤ length (now (input .exit)) ⌝ }
+// Reads a chunk of the input. The end of the input is the last one: the LF that ends a line of `have` bytes, or no byte where none are held.
+fn read_chunk(input: &mut [u8], have: usize) -> Chunk
+    requires { ⌜ 1 ≤ length (now input) ⌝ }
+    ensures { λ r. ⌜ r .bytes ≤ length (now (input .entry)) ⌝ }
 {
-    io::count(libc::read(libc::STDIN_FILENO, input), input)
-}
-
-// Answers the last line, which no LF ends, if it holds a byte.
-fn answer_last(
-    line: &[u8],
-    slots: &mut [u64; 4224],
-    counts: &mut [u16; 256],
-    tape: &mut [u32; 1024],
-    output: &mut [u8],
-    state: State,
-)
-    requires held { ⌜ Held (length (now line)) (length (now output)) state ⌝ }
-    requires room { ⌜ longest ≤ length (now output) ⌝ }
-{
-    let have = state.have;
-    if have == 0 {
-        return;
+    let bytes = io::count(libc::read(libc::STDIN_FILENO, input), input);
+    if 0 < bytes {
+        return Chunk {
+            bytes: bytes,
+            last: false,
+        };
     }
-    let last = answer(&line[..have], slots, counts, tape, output, state);
-    flush(output, last);
+    if have == 0 {
+        return Chunk {
+            bytes: 0,
+            last: true,
+        };
+    }
+    input[0] = b'\n';
+    Chunk {
+        bytes: 1,
+        last: true,
+    }
 }
 
-// Answers every line of the input. The answers to a chunk are written before the next
-// one is read. A proved loop has to end, so this one counts its turns down, from a number that no run uses up.
+// How many turns are left: none where the input has ended or a write has failed.
+fn turns_left(turns: u64, last: bool, failed: bool) -> u64
+    requires { ⌜ 0 < turns ⌝ }
+    ensures { λ r. ⌜ r < turns ⌝ }
+{
+    if last || failed {
+        return 0;
+    }
+    turns - 1
+}
+
+// Answers every line of the input, and stops where a write has failed. The answers to a chunk are written before the next one is read. A
+// proved loop has to end, so this one counts its turns down, from a number that no run uses up.
 fn run(
     slots: &mut [u64; 4224],
     counts: &mut [u16; 256],
     tape: &mut [u32; 1024],
-    line: &mut [u8],
-    input: &mut [u8],
-    output: &mut [u8],
-)
-    requires { ⌜ longest ≤ length (now output) ⌝ }
-{
+    line: &mut [u8; 256],
+    input: &mut [u8; 65536],
+    output: &mut [u8; OUTPUT],
+) {
     let mut state = State {
         have: 0,
         waiting: 0,
@@ -192,16 +202,11 @@ fn run(
         failed: false,
     };
     let mut turns = u64::MAX;
-    let mut n = read_chunk(input);
-    while 0 < n && 0 < turns {
-        state = answer_chunk(&input[..n], line, slots, counts, tape, output, state);
-        if state.failed {
-            return;
-        }
-        n = read_chunk(input);
-        turns -= 1;
+    while 0 < turns {
+        let chunk = read_chunk(input, state.have);
+        state = answer_chunk(input, chunk.bytes, line, slots, counts, tape, output, state);
+        turns = turns_left(turns, chunk.last, state.failed);
     }
-    answer_last(line, slots, counts, tape, output, state);
 }
 
 // A store of zeros is the empty sheet, and no word of the tape waits.
@@ -211,7 +216,7 @@ fn main() {
     let mut tape = [0u32; 1024];
     let mut line = [0u8; 256];
     let mut input = [0u8; 65536];
-    let mut output = [0u8; 262144];
+    let mut output = [0u8; OUTPUT];
     run(
         &mut slots,
         &mut counts,

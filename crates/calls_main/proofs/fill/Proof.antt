@@ -1,16 +1,11 @@
--- `fill` meets its contract. The loop's invariant: the slices are as long as they were. Assumes nothing.
-use Prim.Native.Nat.{_-_}
-use mathlib.Core.Path.{_≡_}
-use lib.ListN.{length}
+-- `fill` meets its contract. The loop's invariant: the next entry is at most 1,025. Assumes nothing.
+use Prim.Native.Nat.{_-_, _≤_}
 use borrow.Author.Needs.{needs}
 use Rattle.calls_main.proofs.fill.Statement.{statement}
 use Rattle.calls_main.proofs.fill.Tie as tie
-use Rattle.calls_main.proofs.fill.Reads as reads
-use Rattle.calls_main.proofs.fill.Lts as lts
-use Rattle.packed_sheet.proofs.insert.Reads as insert-reads
 
 abbrev Inv-loop : tie.InvT-loop
-Inv-loop slots₀ counts₀ tape entry₀ slots counts entry = (length slots ≡ length slots₀) × (length counts ≡ length counts₀)
+Inv-loop slots₀ counts₀ tape entry₀ slots counts entry = entry ≤ 1025
 
 abbrev μ-loop : tie.MeasureT-loop
 μ-loop slots₀ counts₀ tape entry₀ slots counts entry = 1025 - entry
@@ -30,26 +25,10 @@ loop-less c = search needs
 loop-again : tie.Need-loop-again Inv-loop μ-loop
 loop-again c = search needs
 
-same-length : tie.Need-same-length Inv-loop μ-loop
-same-length c = search needs
-
-same-length-2 : tie.Need-same-length-2 Inv-loop μ-loop
-same-length-2 c = search needs
-
 returns : tie.Need-returns Inv-loop μ-loop
 returns c = search needs
 
 pub fill-spec : {M : Type 1} → statement M
 fill-spec =
     tie.close
-    (tie.spec
-    Inv-loop
-    μ-loop
-    loop-holds
-    insert-requires
-    add-entry
-    loop-less
-    loop-again
-    same-length
-    same-length-2
-    returns)
+    (tie.spec Inv-loop μ-loop loop-holds insert-requires add-entry loop-less loop-again returns)

@@ -1,0 +1,3 @@
+-- The frames that only ask.
+pub mod Question
+pub mod QuestionLaws

@@ -1,0 +1,60 @@
+-- A frame that only asks is answered, and everything is kept. Assumes nothing.
+use mathlib.Core.Path.{_≡_}
+use mathlib.Core.List.{List, []}
+use Prim.Native.Nat.{ℕ}
+use lib.ListN.{getD, replicate}
+use Rattle.layout.specs.Layout.{Store}
+use Rattle.outcomes.specs.Call as call
+use Rattle.outcomes.specs.Outcome.{storeOf, outcome}
+use Rattle.frame_lines.specs.declared.Frame.{Frame}
+use Rattle.frame_lines.specs.declared.Frame.the-variants.{Insert, Delete, Read, Tape, Print, Clear, Place, NoFrame}
+use Rattle.answer_lines.specs.Reply.{brief, lineOf, bytesOf}
+use Rattle.answer_lines.specs.Wrote.{Wrote}
+use Rattle.frame_answers.specs.Step.{answerTo, keeping, entryCount, readLine, placeLine, printLines}
+use Rattle.frame_answers.specs.StepLaws.{one-line, printed-gives}
+use Rattle.frame_answers.specs.Gives.{keptOf, Gives}
+use Rattle.frame_dispatch.specs.Question.{Asks, repliesTo}
+
+-- ---- what the answer is, by the frame
+
+abbrev Replied : Frame → Store → List ℕ → List ℕ → ℕ → Type 0
+Replied frame store old new r = Wrote old 0 (bytesOf (repliesTo frame store)) new r
+
+module _ (slots counts : List ℕ) {frame : Frame} {old new : List ℕ} {r : ℕ} where
+  pub read-replied : {first last : ℕ} → frame ≡ Read first last
+      → Wrote old 0 (lineOf (readLine (outcome call.clubs (call.read first last 64) [] (storeOf slots counts) (replicate 64 0)) (storeOf slots counts))) new r
+      → Replied frame (storeOf slots counts) old new r
+  unfolding repliesTo answerTo keeping
+  read-replied e w = rw e (one-line _ w)
+
+  pub print-replied : frame ≡ Print
+      → Wrote old 0 (bytesOf (printLines (outcome call.clubs call.check [] (storeOf slots counts) []) (storeOf slots counts))) new r
+      → Replied frame (storeOf slots counts) old new r
+  unfolding repliesTo answerTo
+  print-replied e w = rw e w
+
+  pub place-replied : {rank : ℕ} → frame ≡ Place rank
+      → Wrote old 0 (lineOf (placeLine (outcome call.clubs (call.place rank) [] (storeOf slots counts) []) (storeOf slots counts))) new r
+      → Replied frame (storeOf slots counts) old new r
+  unfolding repliesTo answerTo keeping
+  place-replied e w = rw e (one-line _ w)
+
+  pub none-replied : frame ≡ NoFrame → Wrote old 0 (lineOf (brief 255 8 (getD counts 1 0))) new r
+      → Replied frame (storeOf slots counts) old new r
+  unfolding repliesTo answerTo keeping entryCount
+  none-replied e w = rw e (one-line _ w)
+
+-- ---- what is kept
+
+pub question-gives : (frame : Frame) (line : List ℕ) (store : Store) → Asks frame → {tape output output′ : List ℕ} {waiting bytes : ℕ}
+    → Replied frame store output output′ bytes
+    → Gives (answerTo frame line (keptOf store tape waiting)) output bytes waiting store tape output′
+unfolding Asks repliesTo answerTo keeping
+question-gives (Insert rank entry) line store a w = absurd a
+question-gives (Delete rank) line store a w = absurd a
+question-gives (Read first last) line store a w = printed-gives _ w
+question-gives (Tape words) line store a w = absurd a
+question-gives Print line store a w = printed-gives _ w
+question-gives Clear line store a w = absurd a
+question-gives (Place rank) line store a w = printed-gives _ w
+question-gives NoFrame line store a w = printed-gives _ w

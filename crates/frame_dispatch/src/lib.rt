@@ -1,0 +1,83 @@
+// A frame, answered by its kind.
+use frame_answers::Stepped;
+use frame_lines::Frame;
+ghost use mathlib.Core.Path.{_≡_};
+ghost use Prim.Native.Nat.{_≤_};
+ghost use lib.ListN.{length};
+ghost use Rattle.outcomes.specs.Outcome.{storeOf};
+ghost use Rattle.frame_lines.specs.Frame.{frameOf};
+ghost use Rattle.answer_lines.specs.Reply.{bytesOf};
+ghost use Rattle.answer_lines.specs.Wrote.{Wrote};
+ghost use Rattle.frame_answers.specs.Step.{answerTo, longest};
+ghost use Rattle.frame_answers.specs.Gives.{keptOf, Gives};
+ghost use Rattle.frame_dispatch.specs.Question.{Asks, repliesTo};
+
+// Answers a frame that only asks.
+fn answer_question(frame: Frame, slots: &[u64], counts: &[u16], output: &mut [u8]) -> usize
+    requires frame { ⌜ Asks frame ⌝ }
+    requires room { ⌜ longest ≤ length (now output) ⌝ }
+    ensures { λ r. ⌜ Wrote (now (output .entry)) 0 (bytesOf (repliesTo frame (storeOf (now (slots .entry)) (now (counts .entry))))) (now (output .exit)) r ⌝ }
+{
+    match frame {
+        Frame::Read { first, last } => frame_answers::read_line(slots, counts, first, last, output),
+        Frame::Print => print_lines::print_line(slots, counts, output),
+        Frame::Place { rank } => frame_answers::place_line(slots, counts, rank, output),
+        _ => frame_answers::answer(output, 255, 8, counts),
+    }
+}
+
+// Answers a frame.
+pub fn answer_frame(
+    frame: Frame,
+    line: &[u8],
+    slots: &mut [u64],
+    counts: &mut [u16],
+    tape: &mut [u32],
+    waiting: usize,
+    output: &mut [u8],
+) -> Stepped
+    requires frame { ⌜ frame ≡ frameOf (now line) ⌝ }
+    requires tape { ⌜ length (now tape) ≡ 1024 ⌝ }
+    requires waiting { ⌜ waiting ≤ 1024 ⌝ }
+    requires room { ⌜ longest ≤ length (now output) ⌝ }
+    ensures { λ r. ⌜ Gives
+        (answerTo frame (now (line .entry)) (keptOf (storeOf (now (slots .entry)) (now (counts .entry))) (now (tape .entry)) waiting))
+        (now (output .entry)) (r .bytes) (r .waiting) (storeOf (now (slots .exit)) (now (counts .exit))) (now (tape .exit)) (now (output .exit)) ⌝ }
+{
+    match frame {
+        Frame::Insert { rank, entry } => {
+            change_lines::insert_line(slots, counts, tape, waiting, rank, entry, output)
+        }
+        Frame::Delete { rank } => change_lines::delete_line(
+            slots,
+            counts,
+            tape,
+            waiting,
+            rank,
+            output,
+        ),
+        Frame::Tape { words } => frame_answers::tape_line(
+            line,
+            words,
+            slots,
+            counts,
+            tape,
+            waiting,
+            output,
+        ),
+        Frame::Clear => {
+            let bytes = frame_answers::clear_line(slots, counts, output);
+            Stepped {
+                bytes: bytes,
+                waiting: waiting,
+            }
+        }
+        _ => {
+            let bytes = answer_question(frame, slots, counts, output);
+            Stepped {
+                bytes: bytes,
+                waiting: waiting,
+            }
+        }
+    }
+}

@@ -1,0 +1,3 @@
+-- What a print comes to.
+pub mod Printed
+pub mod PrintLaws
