@@ -43,11 +43,6 @@ module _ {A : Type 0} (P : A → Type 0) where
   every-getD (x ∷ xs) zero d p h = p .0
   every-getD (x ∷ xs) (suc i) d p h = every-getD xs i d (p .1) (le-of-suc-le-suc h)
 
-  pub every-of : (xs : List A) (d : A) → ((i : ℕ) → i < length xs → P (getD xs i d)) → Every P xs
-  unfolding Every
-  every-of [] d h = tt
-  every-of (x ∷ xs) d h = (h 0 (omega arith), every-of xs d (λ i l. h (suc i) (omega arith)))
-
   pub every-set : (xs : List A) (i : ℕ) (x : A) → Every P xs → P x → Every P (set xs i x)
   unfolding Every
   every-set [] i x p h = tt

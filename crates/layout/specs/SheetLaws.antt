@@ -168,15 +168,18 @@ pub test-sheet : (cap : Capacity) (store : Store) → sheetTest cap store ≡ tr
 test-sheet cap store h =
     let w = test-sound cap store h in record { list = listOf store; shape = shapeOf store; valid = w .0; laid = w .1 }
 
-pub decode-sound : (cap : Capacity) (store : Store) (contents : Contents) → decode cap store ≡ some contents
-    → IsContents cap (contents .list) (contents .shape) × (store ≡ layOut cap (contents .list) (contents .shape))
-decode-sound cap store contents h =
+-- What decodes passes the test, and its contents are what stands in the store.
+pub decoded : (cap : Capacity) (store : Store) (contents : Contents) → decode cap store ≡ some contents
+    → (sheetTest cap store ≡ true) × (contents ≡ record { list = listOf store; shape = shapeOf store })
+decoded cap store contents h =
     ⊎-elim
-    (λ yes.
-    let e : contents ≡ record { list = listOf store; shape = shapeOf store } = cc (decode-true cap store yes) in
-    rw e (test-sound cap store yes))
+    (λ yes. (yes, cc (decode-true cap store yes)))
     (λ no. let z : _≡_ {A = ℕ} 0 1 = cc (decode-false cap store no) in absurd (omega arith))
     (true-or-false (sheetTest cap store))
+
+pub decode-sound : (cap : Capacity) (store : Store) (contents : Contents) → decode cap store ≡ some contents
+    → IsContents cap (contents .list) (contents .shape) × (store ≡ layOut cap (contents .list) (contents .shape))
+decode-sound cap store contents h = let w = decoded cap store contents h in rw (w .1) (test-sound cap store (w .0))
 
 -- ---- sheets
 

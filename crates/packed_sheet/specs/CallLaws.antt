@@ -20,7 +20,8 @@ use Rattle.rules.specs.Compare.{countAfter}
 use Rattle.rules.specs.Rules.{InReach, update}
 use Rattle.layout.specs.Layout.{Capacity, Store, layOut}
 use Rattle.layout.specs.Leaf.{nonzero}
-use Rattle.layout.specs.Sheet.{Contents, listOf, shapeOf, sheetTest, decode}
+use Rattle.layout.specs.Sheet.{Contents, listOf, decode}
+use Rattle.layout.specs.SheetLaws.{decoded}
 use Rattle.slices.specs.ChangeList.{changeList}
 use Rattle.outcomes.specs.declared.Cause.{Cause}
 use Rattle.outcomes.specs.declared.Cause.the-variants.{EntryZero, Rank, Full, OutputShort}
@@ -37,12 +38,8 @@ use Rattle.sheet_change.specs.SheetChange.{changeBy, changeOf, Changeable, Chan
 
 -- The list of a sheet is what stands in its slots.
 decoded-list : (cap : Capacity) (store : Store) (c : Contents) → decode cap store ≡ some c → c .list ≡ nonzero (store .slots)
-unfolding decode listOf
-decoded-list cap store c h = go (sheetTest cap store) h
-  where
-    go : (b : Bool) → elim b [ true ↦ some (record { list = listOf store; shape = shapeOf store }) | false ↦ none ] ≡ some c → c .list ≡ nonzero (store .slots)
-    go true h = let same : record { list = listOf store; shape = shapeOf store } ≡ c = cc in sym (ap (λ (x : Contents). x .list) same)
-    go false h = let z : _≡_ {A = ℕ} 0 1 = cc in absurd (omega arith)
+unfolding listOf
+decoded-list cap store c h = ap (λ (x : Contents). x .list) (decoded cap store c h .1)
 
 -- None of three tests holds.
 none-of : (a b c : Bool) → (a || b || c) ≡ false → (a ≡ false) × (b ≡ false) × (c ≡ false)

@@ -5,13 +5,12 @@ use native.Mathlib.Nat.{le-refl}
 use native.Mathlib.Omega.{arith}
 use lib.ListN.{set, replicate}
 use Rattle.base.specs.Lists.{Every}
-use Rattle.base.specs.ListLaws.{every-replicate}
+use Rattle.base.specs.ListLaws.{every-set, every-replicate}
 use Rattle.sizes.specs.Sizes.{height, candidates, Fits}
 use Rattle.sizes.specs.SizeLaws.{candidate-below}
 use Rattle.sizes.specs.Fit.{fit, fits-count, fits-halves}
 use Rattle.rules.specs.Tree.{Tree, leaf, node, Balanced, Shape, IsShape}
 use Rattle.rank_tree.specs.Counts.{writeTree, shapeCounts}
-use Rattle.base.specs.ListLaws.{every-set}
 
 -- P holds of every number up to M.
 module _ (P : ℕ → Type 0) (M : ℕ) (holds : (c : ℕ) → c ≤ M → P c) where

@@ -1,23 +1,23 @@
 -- What a print comes to, and that its output has room for it. Assumes nothing.
-use mathlib.Core.Path.{_≡_, refl, sym, ap}
+use mathlib.Core.Path.{_≡_, ap}
 use mathlib.Core.Logic.{_≢_}
-use mathlib.Core.Bool.{Bool, true, false, not, _&&_}
-use mathlib.Core.Option.{some, none}
+use mathlib.Core.Option.{some}
 use mathlib.Core.List.{List, []}
 use Prim.Native.Nat.{ℕ, suc, _+_, _-_, _*_, _^_, _≤_, _<_}
 use native.Mathlib.Omega.{arith}
 use native.Mathlib.Numerals.{add-one}
 use native.Mathlib.Nat.{mul-le-mul-right}
-use borrow.Author.Tests.{eqb-true}
+use borrow.Author.Tests.{eqb-true, not-false}
 use lib.Dec.{eqb}
 use lib.ListN.{length, getD, take, drop, length-take}
+use Rattle.base.specs.BoolLaws.{and-both}
 use Rattle.base.specs.CaseLaws.{ifEq-yes, ifEq-no}
 use Rattle.sizes.specs.Sizes.{height, leafSlots, slots}
 use Rattle.sizes.specs.SizeLaws.{height-most}
 use Rattle.sizes.specs.Capacity.{slots-2047, counts-2047}
 use Rattle.layout.specs.Layout.{Capacity, Store}
-use Rattle.layout.specs.Sheet.{Contents, listOf, shapeOf, sheetTest, decode}
-use Rattle.layout.specs.SheetLaws.{decode-sound}
+use Rattle.layout.specs.Sheet.{Contents, shapeOf, decode}
+use Rattle.layout.specs.SheetLaws.{decoded, decode-sound}
 use Rattle.outcomes.specs.declared.Returned.{Returned}
 use Rattle.outcomes.specs.declared.Answer.{Answer}
 use Rattle.outcomes.specs.Call.{check, returned, clubs}
@@ -137,20 +137,10 @@ module _ {o : Outcome} {given : Answer} {slots counts : List ℕ} {back : Return
   unfolding printLines printReplies bytesOf entryCount
   print-accepted e more = rw (← done, ← is, ifEq-yes (back .number) 0 _ _ e) (wrote-more first more)
 
-both-true : (a b : Bool) → not (a && b) ≡ false → (a ≡ true) × (b ≡ true)
-both-true true true e = (refl, refl)
-both-true true false e = let z : _≡_ {A = ℕ} 0 1 = cc in absurd (omega arith)
-both-true false b e = let z : _≡_ {A = ℕ} 0 1 = cc in absurd (omega arith)
-
 -- M, which a print says, is the size parameter.
 pub size-known : (cap : Capacity) (store : Store) (c : Contents) → decode cap store ≡ some c → c .shape .size ≡ getD (store .counts) 0 0
-unfolding decode shapeOf
-size-known cap store c = by-test (sheetTest cap store)
-  where
-    by-test : (b : Bool) → elim b [ true ↦ some (record { list = listOf store; shape = shapeOf store }) | false ↦ none ] ≡ some c
-        → c .shape .size ≡ getD (store .counts) 0 0
-    by-test true e = let same : record { list = listOf store; shape = shapeOf store } ≡ c = cc in sym (ap (λ (x : Contents). x .shape .size) same)
-    by-test false e = let z : _≡_ {A = ℕ} 0 1 = cc in absurd (omega arith)
+unfolding shapeOf
+size-known cap store c h = ap (λ (x : Contents). x .shape .size) (decoded cap store c h .1)
 
 pub printable : (store : Store) (given : Answer) (slots counts : List ℕ) (back : Returned)
     → left given slots counts [] ≡ outcome clubs check [] store [] → back ≡ returned given → back .number ≡ 0 → Printable store
@@ -158,7 +148,7 @@ unfolding contentsFor lengthsWrong
 printable store given slots counts back done is zero-is =
     let e : returned (outcome clubs check [] store [] .answer) ≡ back = rw (← done, is) in
     let a = accepted clubs check [] store [] (rw e zero-is) in
-    let lengths = both-true (eqb (length (store .slots)) 4224) (eqb (length (store .counts)) 256) (a .right) in
+    let lengths = and-both (eqb (length (store .slots)) 4224) (eqb (length (store .counts)) 256) (not-false _ (a .right)) in
     let valid = decode-sound clubs store (a .before) (a .held) .0 in
     record {
       counts = eqb-true (length (store .counts)) 256 (lengths .1);

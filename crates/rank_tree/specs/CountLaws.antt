@@ -104,11 +104,6 @@ write-holds (suc levels) counts k n (node b l r) has pos room =
       write-holds levels left (2 * k + 1) (n - b) r (has .1) (omega arith) (omega arith),
     )
 
-pub read-written : (levels : ℕ) (counts : List ℕ) (k n : ℕ) (t : Tree) → Perfect levels t → 0 < k
-    → (k + 1) * 2 ^ levels ≤ length counts → readTree levels (writeTree counts k n t) k ≡ t
-read-written levels counts k n t has pos room =
-    holds-read levels (writeTree counts k n t) k n t has (write-holds levels counts k n t has pos room)
-
 -- ---- what stands outside a range
 
 not-root : (k j : ℕ) → (InSubtree k j → ⊥) → k ≢ j

@@ -1,8 +1,7 @@
 -- `rules::size_step` meets its contract. Assumes nothing.
 use native.Mathlib.Omega.{arith}
 use borrow.Author.Needs.{needs}
-use Rattle.rules.specs.Rules.{sizeStep}
-use Rattle.rules.specs.Rules.{InReach}
+use Rattle.rules.specs.Rules.{InReach, sizeStep}
 use Rattle.rules.proofs.size_step.Statement.{statement}
 use Rattle.rules.proofs.size_step.Tie as tie
 
