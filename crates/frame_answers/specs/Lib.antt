@@ -1,5 +1,7 @@
 -- What the program answers to a line, and what it keeps.
 pub mod Step
 pub mod Gives
+pub mod Fits
 pub mod StepLaws
 pub mod CountLaws
+pub mod WritableLaws

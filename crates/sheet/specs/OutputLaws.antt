@@ -14,6 +14,10 @@ use Rattle.line_input.specs.LineLaws.{lines-ended}
 use Rattle.answer_lines.specs.Reply.{hexDigit, digits, entryDigits, header, Reply, brief, entries, placed, sheet, leaf, encode, lineOf, bytesOf}
 use Rattle.answer_lines.specs.ReadBack.{replyOf, Writable}
 use Rattle.answer_lines.specs.ReadBackLaws.{reply-back}
+use Rattle.frame_lines.specs.declared.Frame.{Frame}
+use Rattle.frame_answers.specs.Step.{Kept, answerTo}
+use Rattle.frame_answers.specs.Fits.{StoreFits}
+use Rattle.frame_answers.specs.WritableLaws.{replies-writable}
 
 -- ---- no byte of a line is LF
 
@@ -76,3 +80,9 @@ replies-back replies w = ap (map replyOf) (replies-part replies) ∙ each replie
     each : (rs : List Reply) → Every Writable rs → map replyOf (map encode rs) ≡ rs
     each [] w = refl
     each (r ∷ rs) w = ap₂ (λ (x : Reply) (xs : List Reply). x ∷ xs) (reply-back r (w .0)) (each rs (w .1))
+
+-- The bytes that answer a frame, read line by line, are its replies: for stores whose numbers fit their widths, as those of lent slices do.
+pub answer-back : (frame : Frame) (line : List ℕ) (k : Kept) → StoreFits (k .store) → StoreFits (answerTo frame line k .kept .store)
+    → map replyOf (linesOf (bytesOf (answerTo frame line k .replies))) ≡ answerTo frame line k .replies
+answer-back frame line k before after =
+    replies-back (answerTo frame line k .replies) (replies-writable frame line k before after)
