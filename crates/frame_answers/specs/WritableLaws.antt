@@ -20,15 +20,14 @@ use Rattle.layout.specs.Layout.{Store}
 use Rattle.layout.specs.Leaf.{nonzero}
 use Rattle.layout.specs.Sheet.{Contents, listOf, shapeOf}
 use Rattle.layout.specs.SheetLaws.{decoded, decode-sound}
-use Rattle.outcomes.specs.declared.Cause.{Cause}
 use Rattle.outcomes.specs.declared.Cause.the-variants as cause
 use Rattle.outcomes.specs.declared.Answer.{Answer}
 use Rattle.outcomes.specs.declared.Answer.the-variants as answer
-use Rattle.outcomes.specs.Call.{clear, insert, delete, read, place, check, causeNumber, returned, clubs}
+use Rattle.outcomes.specs.Call.{clear, insert, delete, read, place, check, returned, clubs}
 use Rattle.outcomes.specs.Causes.{contentsFor, argumentCause}
 use Rattle.outcomes.specs.Outcome.{effect, answerOf, entriesOf, finished, outcome}
 use Rattle.outcomes.specs.OutcomeLaws.{outcome-runs}
-use Rattle.outcomes.specs.AnswerLaws.{accepted, first-not}
+use Rattle.outcomes.specs.AnswerLaws.{cause-bounds, accepted, first-not}
 use Rattle.frame_lines.specs.declared.Frame.{Frame}
 use Rattle.frame_lines.specs.declared.Frame.the-variants.{Insert, Delete, Read, Tape, Print, Clear, Place, NoFrame}
 use Rattle.answer_lines.specs.ReadBack.{EntriesFit, BriefFits, Writable}
@@ -49,24 +48,13 @@ entries-fit P [] p = tt
 entries-fit P (zero ∷ slots) p = entries-fit P slots (p .1)
 entries-fit P (suc x ∷ slots) p = (p .0, entries-fit P slots (p .1))
 
-cause-fits : (c : Cause) → causeNumber c < 256
-cause-fits cause.Lengths = omega arith
-cause-fits cause.NotASheet = omega arith
-cause-fits cause.EntryZero = omega arith
-cause-fits cause.Rank = omega arith
-cause-fits cause.Full = omega arith
-cause-fits cause.OutputShort = omega arith
-cause-fits cause.TapeEnded = omega arith
-cause-fits cause.NoFrame = omega arith
-cause-fits cause.TapeFull = omega arith
-
 number-fits : (a : Answer) → returned a .number < 256
 number-fits answer.Cleared = omega arith
 number-fits (answer.Changed n words) = omega arith
 number-fits (answer.Entries count) = omega arith
 number-fits (answer.Placed p points) = omega arith
 number-fits (answer.Checked n) = omega arith
-number-fits (answer.Refused c) = cause-fits c
+number-fits (answer.Refused c) = cause-bounds c .1
 
 -- the count of entries that a store has
 module _ (store : Store) (f : StoreFits store) where

@@ -40,16 +40,17 @@ module _ (cap : Capacity) (call : Call) (tape : List ℕ) (store : Store) (outpu
 
 -- ---- no cause
 
-cause-positive : (c : Cause) → causeNumber c ≡ 0 → 0 < 0
-cause-positive cause.Lengths e = omega arith
-cause-positive cause.NotASheet e = omega arith
-cause-positive cause.EntryZero e = omega arith
-cause-positive cause.Rank e = omega arith
-cause-positive cause.Full e = omega arith
-cause-positive cause.OutputShort e = omega arith
-cause-positive cause.TapeEnded e = omega arith
-cause-positive cause.NoFrame e = omega arith
-cause-positive cause.TapeFull e = omega arith
+-- The number of a cause is not 0, and fits a byte.
+pub cause-bounds : (c : Cause) → (0 < causeNumber c) × (causeNumber c < 256)
+cause-bounds cause.Lengths = (omega arith, omega arith)
+cause-bounds cause.NotASheet = (omega arith, omega arith)
+cause-bounds cause.EntryZero = (omega arith, omega arith)
+cause-bounds cause.Rank = (omega arith, omega arith)
+cause-bounds cause.Full = (omega arith, omega arith)
+cause-bounds cause.OutputShort = (omega arith, omega arith)
+cause-bounds cause.TapeEnded = (omega arith, omega arith)
+cause-bounds cause.NoFrame = (omega arith, omega arith)
+cause-bounds cause.TapeFull = (omega arith, omega arith)
 
 -- None of the causes 1 to 6 refuses the call.
 pub record Accepted (cap : Capacity) (call : Call) (store : Store) : Type 0 where
@@ -69,17 +70,17 @@ accepted cap call tape store output = by-lengths (lengthsWrong cap store) refl
     by-cause : lengthsWrong cap store ≡ false → (before : Contents) → contentsFor cap call store ≡ some before
         → (o : Option Cause) → argumentCause cap call (length (before .list)) ≡ o
         → number (elim o [ some cause ↦ refuse cause | none ↦ accept before ]) ≡ 0 → Accepted cap call store
-    by-cause right before held (some c) e zero-is = absurd (omega (arith, cause-positive c zero-is))
+    by-cause right before held (some c) e zero-is = absurd (omega (arith, zero-is, cause-bounds c .0))
     by-cause right before held none e zero-is = record { right = right; before = before; held = held; free = e }
 
     by-contents : lengthsWrong cap store ≡ false → (o : Option Contents) → contentsFor cap call store ≡ o
         → number (byContents cap call o) ≡ 0 → Accepted cap call store
-    by-contents right none e zero-is = absurd (omega (arith, cause-positive cause.NotASheet zero-is))
+    by-contents right none e zero-is = absurd (omega (arith, zero-is, cause-bounds cause.NotASheet .0))
     by-contents right (some before) e zero-is = by-cause right before e (argumentCause cap call (length (before .list))) refl zero-is
 
     by-lengths : (b : Bool) → lengthsWrong cap store ≡ b
         → number (elim b [ true ↦ refuse cause.Lengths | false ↦ byContents cap call (contentsFor cap call store) ]) ≡ 0 → Accepted cap call store
-    by-lengths true e zero-is = absurd (omega (arith, cause-positive cause.Lengths zero-is))
+    by-lengths true e zero-is = absurd (omega (arith, zero-is, cause-bounds cause.Lengths .0))
     by-lengths false e zero-is = by-contents e (contentsFor cap call store) refl zero-is
 
 -- ---- the entries of a read
