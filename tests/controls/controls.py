@@ -1,6 +1,6 @@
 """Applies each edit to a copy of the rules' definitions and of the laws above them, and has that copy checked.
 
-The copy holds the crates up to `canonical`; of the crate `rules` it has the definitions, the laws and the enums, but no function, so that
+The copy holds the crates up to `tree_canonical`; of the crate `tree_rules` it has the definitions, the laws and the enums, but no function, so that
 nothing but a law can refuse an edit. An edit is one of must-fail's form with a line more: `refused:` names the file, and the law in it, that
 refuses the edit first. Face 1 for face 0 where the new size is drawn is no such edit: among N + 1 both have the same share."""
 import pathlib
@@ -10,7 +10,7 @@ import subprocess
 import sys
 import tempfile
 
-CRATES = ["base", "draw", "shares", "sizes", "rules", "canonical"]
+CRATES = ["base", "draw", "draw_shares", "tree_sizes", "tree_rules", "tree_canonical"]
 
 
 def enums(source):
@@ -25,15 +25,15 @@ def copy(place):
     for name in CRATES:
         for part in ["src", "specs", "proofs"]:
             source = pathlib.Path("crates") / name / part
-            if source.is_dir() and (name, part) != ("rules", "proofs"):
+            if source.is_dir() and (name, part) != ("tree_rules", "proofs"):
                 shutil.copytree(source, place / "crates" / name / part)
-    code = place / "crates/rules/src/lib.rt"
+    code = place / "crates/tree_rules/src/lib.rt"
     code.write_text(enums(code.read_text(encoding="utf-8")), encoding="utf-8")
 
 
 def check(place):
     """Whether the copy is proved, and the first place at which it is not."""
-    run = subprocess.run(["rt", "check", "canonical"], cwd=place, capture_output=True, text=True)
+    run = subprocess.run(["rt", "check", "tree_canonical"], cwd=place, capture_output=True, text=True)
     said = run.stdout + run.stderr
     first = re.search(r"crates/(\S+?\.antt):\d+:\d+: (?:error: )?`([^`]+)`", said)
     return run.returncode == 0, first.groups() if first else None, said

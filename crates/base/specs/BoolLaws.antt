@@ -1,4 +1,4 @@
--- Laws of tests: a conjunction that holds, the two cases of a test, and when two tests agree. Assumes nothing.
+-- Laws of tests: a conjunction that holds, the two cases of a test, and when two tests agree.
 use mathlib.Core.Path.{_≡_, refl, sym}
 use mathlib.Core.Bool.{Bool, true, false, _&&_}
 use mathlib.Core.Logic.{_⊎_, inl, inr}

@@ -1,4 +1,4 @@
--- Which value a comparison chooses, and proofs by its two cases. Assumes nothing.
+-- Which value a comparison chooses, and proofs by its two cases.
 use mathlib.Core.Path.{_≡_}
 use mathlib.Core.Logic.{_⊎_, inl, inr, ⊎-elim, _≢_}
 use Prim.Native.Nat.{ℕ, _≤_, _<_}

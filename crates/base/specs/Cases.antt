@@ -1,4 +1,4 @@
--- A choice between two values by a comparison of two numbers. Definitions only: they assume nothing.
+-- A choice between two values by a comparison of two numbers. Definitions only.
 use mathlib.Core.Bool.{true, false}
 use Prim.Native.Nat.{ℕ}
 use lib.Dec.{eqb, leb, ltb}

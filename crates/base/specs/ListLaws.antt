@@ -1,4 +1,4 @@
--- Laws of lists: their members, parts and sums, and the equality test. Assumes nothing.
+-- Laws of lists: their members, parts and sums, and the equality test.
 use mathlib.Core.Path.{_≡_, refl, sym, _∙_, ap₂}
 use mathlib.Core.Bool.{true}
 use mathlib.Core.List.{List, [], _∷_, _++_, map}

@@ -1,5 +1,4 @@
--- A property of every member of a list, the sum of a list, and the test that two lists of numbers are equal. Definitions only: they assume
--- nothing.
+-- A property of every member of a list, the sum of a list, and the test that two lists of numbers are equal. Definitions only.
 use mathlib.Core.Bool.{Bool, true, false, _&&_}
 use mathlib.Core.List.{List, [], _∷_}
 use Prim.Native.Nat.{ℕ, _+_}

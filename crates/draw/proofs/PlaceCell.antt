@@ -1,5 +1,5 @@
 -- A `TapePlace` in memory: its machine value, that its number fits, and how a cell that holds it becomes what is lent and comes back.
--- Assumes nothing: the rules of the logic come as a `Given`.
+-- The rules of the logic come as a `Given`.
 use mathlib.Core.Path.{refl}
 use Prim.Native.Nat.{ℕ, _<_, _^_}
 use mathlib.Core.List.{List, [], _∷_}

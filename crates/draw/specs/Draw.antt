@@ -1,4 +1,4 @@
--- A draw among m faces from a tape of words (document 01, "Coins"). Definitions only: they assume nothing.
+-- A draw among m faces from a tape of words (document 01, "Coins"). Definitions only.
 use mathlib.Core.List.{List, [], _∷_}
 use Prim.Native.Nat.{ℕ, suc, _*_, _/_, _%_, _^_}
 use lib.ListN.{drop}
@@ -23,9 +23,9 @@ unfoldable pub drawAt : ℕ → List ℕ → ℕ → Drawn
 drawAt = drawFrom (2 ^ 32)
 
 -- The place on the tape after a draw: past the last word read, or what it was where the draw ended.
-abbrev pub placeAfter : ℕ → Drawn → ℕ
-placeAfter at (Face face next) = next
-placeAfter at Ended = at
+abbrev pub tapePlaceAfter : ℕ → Drawn → ℕ
+tapePlaceAfter at (Face face next) = next
+tapePlaceAfter at Ended = at
 
 -- What a draw gives apart from the place: its face, or that the tape ended.
 abbrev pub faceOf : Drawn → DrawnFace

@@ -1,4 +1,4 @@
--- Laws of the draw: what one word decides, when a draw ends, and that a face is below m. Assumes nothing.
+-- Laws of the draw: what one word decides, when a draw ends, and that a face is below m.
 use mathlib.Core.Path.{_≡_, refl, _∙_}
 use mathlib.Core.Logic.{_≢_}
 use mathlib.Core.List.{List, [], _∷_}
@@ -11,7 +11,7 @@ use lib.Seq.{drop-cons}
 use Rattle.base.specs.CaseLaws.{ifEq-yes, ifEq-no, ifLt-yes, ifLt-no, by-eq, by-lt}
 use Rattle.draw.specs.declared.Drawn.{Drawn}
 use Rattle.draw.specs.declared.Drawn.the-variants.{Face, Ended}
-use Rattle.draw.specs.Draw.{scan, drawFrom, drawAt, placeAfter, faceOf, drawnOf}
+use Rattle.draw.specs.Draw.{scan, drawFrom, drawAt, tapePlaceAfter, faceOf, drawnOf}
 
 pub scan-nil : (limit m at : ℕ) → scan limit m [] at ≡ Ended
 unfolding scan
@@ -97,7 +97,7 @@ unfolding drawAt Good
 draw-sound m tape at face next e = good-draw (2 ^ 32) m tape at face next e
 
 -- A draw is its face and the place after it.
-pub draw-apart : (at : ℕ) (d : Drawn) → drawnOf (placeAfter at d) (faceOf d) ≡ d
+pub draw-apart : (at : ℕ) (d : Drawn) → drawnOf (tapePlaceAfter at d) (faceOf d) ≡ d
 draw-apart at (Face face next) = refl
 draw-apart at Ended = refl
 

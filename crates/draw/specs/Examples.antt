@@ -1,4 +1,4 @@
--- The definition of the draw on written tapes. Assumes nothing.
+-- The definition of the draw on written tapes.
 use mathlib.Core.Path.{_≡_, refl}
 use mathlib.Core.List.{[], _∷_}
 use Rattle.base.specs.Cases.{ifEq, ifLt}

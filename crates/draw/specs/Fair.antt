@@ -1,4 +1,4 @@
--- Every face has equally many runs of words, for each m and each number of words read. Assumes nothing.
+-- Every face has equally many runs of words, for each m and each number of words read.
 use mathlib.Core.Path.{_≡_, refl, ap, ap₂, sym, _∙_, fun-ext}
 use mathlib.Core.Bool.{Bool, false, and-true, and-false}
 use mathlib.Core.Logic.{_≢_, ⊎-elim}

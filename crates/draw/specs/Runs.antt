@@ -1,4 +1,4 @@
--- How many runs of words make a draw read them all and give a face. Definitions only: they assume nothing.
+-- How many runs of words make a draw read them all and give a face. Definitions only.
 use mathlib.Core.Bool.{Bool, true, false, _&&_}
 use mathlib.Core.List.{List, [], _∷_}
 use Prim.Native.Nat.{ℕ, zero, suc, _+_}

@@ -1,7 +1,7 @@
 // A draw among m faces from a tape of 32-bit words, in three layers: `draw_at` has a number for the place, `draw_and_advance` a place that is
 // lent, and `draw`, which the sheet draws by, plain parameters again.
 ghost use mathlib.Core.Path.{_≡_};
-ghost use Rattle.draw.specs.Draw.{drawAt, placeAfter, faceOf, drawnOf};
+ghost use Rattle.draw.specs.Draw.{drawAt, tapePlaceAfter, faceOf, drawnOf};
 
 // What a draw gives: a face with the place after the last word read, or nothing, where the tape ended first.
 pub enum Drawn {
@@ -11,8 +11,8 @@ pub enum Drawn {
 
 impl Drawn {
     // The place on the tape after a draw from the place `at`: an ended draw leaves it where it was.
-    pub fn place(self, at: usize) -> usize
-        ensures { λ r. ⌜ r ≡ placeAfter at self ⌝ }
+    pub fn tape_place(self, at: usize) -> usize
+        ensures { λ r. ⌜ r ≡ tapePlaceAfter at self ⌝ }
     {
         match self {
             Drawn::Face { face: _, next } => next,
@@ -87,11 +87,11 @@ fn draw_at(tape: &[u32], at: usize, m: usize) -> Drawn
 // A draw from a place that is lent: it moves on past the words read, and where the tape ends it stays what it was before the draw.
 pub fn draw_and_advance(tape: &[u32], place: &mut TapePlace, m: usize) -> DrawnFace
     ensures { λ r. ⌜ (r ≡ faceOf (drawAt m (now (tape .entry)) (now (place .entry) .at)))
-        × (now (place .exit) .at ≡ placeAfter (now (place .entry) .at) (drawAt m (now (tape .entry)) (now (place .entry) .at))) ⌝ }
+        × (now (place .exit) .at ≡ tapePlaceAfter (now (place .entry) .at) (drawAt m (now (tape .entry)) (now (place .entry) .at))) ⌝ }
 {
     let at = place.at;
     let d = draw_at(tape, at, m);
-    place.at = d.place(at);
+    place.at = d.tape_place(at);
     d.face()
 }
 

@@ -1,15 +1,15 @@
--- What an answer says of a sheet: N is the number of its entries. Assumes nothing.
+-- What an answer says of a sheet: N is the number of its entries.
 use mathlib.Core.Path.{_≡_, ap, _∙_}
 use mathlib.Core.Option.{some}
 use lib.ListN.{length, getD}
-use Rattle.sizes.specs.Sizes.{height}
-use Rattle.rank_tree.specs.RangeLaws.{balanced-perfect}
-use Rattle.rank_tree.specs.ShapeCountLaws.{shapeCounts-total}
-use Rattle.layout.specs.Layout.{Store, countOrder, layCounts, layOut}
-use Rattle.layout.specs.Sheet.{Contents, decode}
-use Rattle.layout.specs.SheetLaws.{decode-sound}
-use Rattle.outcomes.specs.Call.{clubs}
-use Rattle.outcomes.specs.ClubsLaws.{clubs-roomy}
+use Rattle.tree_sizes.specs.Sizes.{height}
+use Rattle.tree_counts.specs.RangeLaws.{balanced-perfect}
+use Rattle.tree_counts.specs.ShapeCountLaws.{shapeCounts-total}
+use Rattle.store_layout.specs.Layout.{Store, countOrder, layCounts, layOut}
+use Rattle.store_layout.specs.Sheet.{Contents, decode}
+use Rattle.store_layout.specs.SheetLaws.{decode-sound}
+use Rattle.call_outcomes.specs.Call.{clubs}
+use Rattle.call_outcomes.specs.ClubsLaws.{clubs-roomy}
 use Rattle.frame_answers.specs.Step.{entryCount}
 
 pub count-is : (store : Store) (c : Contents) → decode clubs store ≡ some c → entryCount store ≡ length (c .list)

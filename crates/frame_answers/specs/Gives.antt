@@ -1,11 +1,11 @@
--- What the code of a step has to leave, told by the slices. Definitions only: they assume nothing.
+-- What the code of a step has to leave, told by the slices. Definitions only.
 use mathlib.Core.Path.{_≡_}
 use mathlib.Core.List.{List}
 use Prim.Native.Nat.{ℕ}
-use Rattle.layout.specs.Layout.{Store}
-use Rattle.outcomes.specs.Outcome.{Outcome}
-use Rattle.answer_lines.specs.Reply.{lineOf, bytesOf}
-use Rattle.answer_lines.specs.Wrote.{Wrote}
+use Rattle.store_layout.specs.Layout.{Store}
+use Rattle.call_outcomes.specs.Outcome.{Outcome}
+use Rattle.frame_replies.specs.Reply.{lineOf, bytesOf}
+use Rattle.frame_replies.specs.Wrote.{Wrote}
 use Rattle.frame_answers.specs.Step.{Kept, Answered, clearLine}
 
 -- The slices as what is kept.

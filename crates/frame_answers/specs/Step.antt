@@ -1,18 +1,18 @@
--- What the program answers to a line, and what it keeps (document 01, "Frames"). Definitions only: they assume nothing.
+-- What the program answers to a line, and what it keeps (document 01, "Frames"). Definitions only.
 use mathlib.Core.List.{List, [], _∷_, _++_}
 use Prim.Native.Nat.{ℕ, zero, suc, _+_, _-_, _*_, _^_}
 use lib.ListN.{length, getD, take, drop, replicate}
 use Rattle.base.specs.Cases.{ifEq, ifLt}
-use Rattle.sizes.specs.Sizes.{height, leafSlots}
-use Rattle.layout.specs.Layout.{Store}
-use Rattle.outcomes.specs.declared.Returned.{Returned}
-use Rattle.outcomes.specs.Call.{clear, insert, delete, read, place, check, returned, clubs}
-use Rattle.outcomes.specs.Outcome.{Outcome, outcome}
+use Rattle.tree_sizes.specs.Sizes.{height, leafSlots}
+use Rattle.store_layout.specs.Layout.{Store}
+use Rattle.call_outcomes.specs.declared.Returned.{Returned}
+use Rattle.call_outcomes.specs.Call.{clear, insert, delete, read, place, check, returned, clubs}
+use Rattle.call_outcomes.specs.Outcome.{Outcome, outcome}
 use Rattle.frame_lines.specs.declared.Frame.{Frame}
 use Rattle.frame_lines.specs.declared.Frame.the-variants.{Insert, Delete, Read, Tape, Print, Clear, Place, NoFrame}
 use Rattle.frame_lines.specs.Frame.{frameOf}
-use Rattle.waiting_tape.specs.Tape.{readOff, lineWords}
-use Rattle.answer_lines.specs.Reply.{Reply, brief, entries, placed, sheet, leaf, bytesOf}
+use Rattle.frame_tape.specs.Tape.{readOff, lineWords}
+use Rattle.frame_replies.specs.Reply.{Reply, brief, entries, placed, sheet, leaf, bytesOf}
 
 -- What the program keeps between two lines: the store, and the tape, of whose words the first `waiting` wait, the oldest first.
 pub record Kept : Type 0 where

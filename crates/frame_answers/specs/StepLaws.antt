@@ -1,4 +1,4 @@
--- What each frame's answer comes to, told by what its call left. Assumes nothing.
+-- What each frame's answer comes to, told by what its call left.
 use mathlib.Core.Path.{_≡_, refl, ap, sym, _∙_}
 use mathlib.Core.Logic.{_≢_}
 use mathlib.Core.List.{List, [], _∷_, _++_, append-nil}
@@ -6,18 +6,18 @@ use Prim.Native.Nat.{ℕ, _+_, _≤_, _<_}
 use native.Mathlib.Nat.{zero-add}
 use lib.ListN.{length, getD, take, drop}
 use Rattle.base.specs.CaseLaws.{ifEq-yes, ifEq-no, ifLt-yes, ifLt-no}
-use Rattle.layout.specs.Layout.{Store}
-use Rattle.outcomes.specs.declared.Returned.{Returned}
-use Rattle.outcomes.specs.declared.Answer.{Answer}
-use Rattle.outcomes.specs.Call.{read, returned, clubs}
-use Rattle.outcomes.specs.Outcome.{storeOf, left, Outcome, outcome}
+use Rattle.store_layout.specs.Layout.{Store}
+use Rattle.call_outcomes.specs.declared.Returned.{Returned}
+use Rattle.call_outcomes.specs.declared.Answer.{Answer}
+use Rattle.call_outcomes.specs.Call.{read, returned, clubs}
+use Rattle.call_outcomes.specs.Outcome.{storeOf, outcomeOf, Outcome, outcome}
 use Rattle.frame_lines.specs.Frame.{frameOf}
-use Rattle.answer_lines.specs.Reply.{Reply, brief, entries, placed, lineOf, bytesOf}
-use Rattle.answer_lines.specs.Wrote.{Wrote}
-use Rattle.waiting_tape.specs.Tape.{lineWords}
+use Rattle.frame_replies.specs.Reply.{Reply, brief, entries, placed, lineOf, bytesOf}
+use Rattle.frame_replies.specs.Wrote.{Wrote}
+use Rattle.frame_tape.specs.Tape.{lineWords}
 use Rattle.frame_answers.specs.Step.{Kept, Step, entryCount, keeping, readReply, readLine, placeReply, placeLine, clearLine, cleared, taped, answerTo, longest, handed, stepOf}
 use Rattle.frame_answers.specs.Gives.{keptOf, Gives, ClearGives}
-use Rattle.outcomes.specs.AnswerLaws.{entries-within}
+use Rattle.call_outcomes.specs.AnswerLaws.{entries-within}
 
 -- An answer of one line.
 pub one-line : {old new : List ℕ} {at next : ℕ} (reply : Reply) → Wrote old at (lineOf reply) new next → Wrote old at (bytesOf (reply ∷ [])) new next
@@ -27,7 +27,7 @@ one-line reply w = rw (append-nil (lineOf reply)) w
 -- ---- read, place and clear
 
 module _ {o : Outcome} {given : Answer} {slots counts output : List ℕ} {back : Returned}
-    (done : left given slots counts output ≡ o) (is : back ≡ returned given) where
+    (done : outcomeOf given slots counts output ≡ o) (is : back ≡ returned given) where
   pub read-refused : back .number ≢ 0 → brief 131 (back .number) (getD counts 1 0) ≡ readLine o (storeOf slots counts)
   unfolding readLine readReply entryCount
   read-refused ne = rw (← done, ← is) (sym (ifEq-no (back .number) 0 _ _ ne))
@@ -50,7 +50,7 @@ module _ {o : Outcome} {given : Answer} {slots counts output : List ℕ} {back :
   clear-gives w = record { store-is = ap (λ (x : Outcome). x .store) done; wrote = rw (← done, ← is) w }
 
 pub read-most : (first last : ℕ) (store : Store) (given : Answer) (slots counts output output′ : List ℕ) (back : Returned)
-    → left given slots counts output′ ≡ outcome clubs (read first last 64) [] store output → back ≡ returned given → back .number ≡ 0
+    → outcomeOf given slots counts output′ ≡ outcome clubs (read first last 64) [] store output → back ≡ returned given → back .number ≡ 0
     → back .first ≤ 64
 read-most first last store given slots counts output output′ back done is zero-is =
     let e : returned (outcome clubs (read first last 64) [] store output .answer) ≡ back = rw (← done, is) in

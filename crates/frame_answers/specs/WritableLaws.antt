@@ -1,4 +1,4 @@
--- Every reply that the program gives fits its line, so that it can be read back. Assumes nothing.
+-- Every reply that the program gives fits its line, so that it can be read back.
 use mathlib.Core.Path.{_≡_, refl, ap}
 use mathlib.Core.Bool.{Bool, true, not, _&&_}
 use mathlib.Core.Logic.{_≢_}
@@ -13,24 +13,24 @@ use Rattle.base.specs.BoolLaws.{and-both}
 use Rattle.base.specs.CaseLaws.{by-eq, by-lt}
 use Rattle.base.specs.Lists.{Every}
 use Rattle.base.specs.ListLaws.{every-append, every-take, every-drop, every-replicate}
-use Rattle.shares.specs.Tape.{runAt}
-use Rattle.sizes.specs.Sizes.{height, leafSlots}
-use Rattle.sizes.specs.Capacity.{counts-2047}
-use Rattle.layout.specs.Layout.{Store}
-use Rattle.layout.specs.Leaf.{nonzero}
-use Rattle.layout.specs.Sheet.{Contents, listOf, shapeOf}
-use Rattle.layout.specs.SheetLaws.{decoded, decode-sound}
-use Rattle.outcomes.specs.declared.Cause.the-variants as cause
-use Rattle.outcomes.specs.declared.Answer.{Answer}
-use Rattle.outcomes.specs.declared.Answer.the-variants as answer
-use Rattle.outcomes.specs.Call.{clear, insert, delete, read, place, check, returned, clubs}
-use Rattle.outcomes.specs.Causes.{contentsFor, argumentCause}
-use Rattle.outcomes.specs.Outcome.{effect, answerOf, entriesOf, finished, outcome}
-use Rattle.outcomes.specs.OutcomeLaws.{outcome-runs}
-use Rattle.outcomes.specs.AnswerLaws.{cause-bounds, accepted, first-not}
+use Rattle.draw_shares.specs.Tape.{runAt}
+use Rattle.tree_sizes.specs.Sizes.{height, leafSlots}
+use Rattle.tree_sizes.specs.Capacity.{counts-2047}
+use Rattle.store_layout.specs.Layout.{Store}
+use Rattle.store_layout.specs.Leaf.{nonzero}
+use Rattle.store_layout.specs.Sheet.{Contents, listOf, shapeOf}
+use Rattle.store_layout.specs.SheetLaws.{decoded, decode-sound}
+use Rattle.call_outcomes.specs.declared.Cause.the-variants as cause
+use Rattle.call_outcomes.specs.declared.Answer.{Answer}
+use Rattle.call_outcomes.specs.declared.Answer.the-variants as answer
+use Rattle.call_outcomes.specs.Call.{clear, insert, delete, read, place, check, returned, clubs}
+use Rattle.call_outcomes.specs.Causes.{contentsFor, argumentCause}
+use Rattle.call_outcomes.specs.Outcome.{effect, answerOf, entriesOf, finished, outcome}
+use Rattle.call_outcomes.specs.OutcomeLaws.{outcome-runs}
+use Rattle.call_outcomes.specs.AnswerLaws.{cause-bounds, accepted, first-not}
 use Rattle.frame_lines.specs.declared.Frame.{Frame}
 use Rattle.frame_lines.specs.declared.Frame.the-variants.{Insert, Delete, Read, Tape, Print, Clear, Place, NoFrame}
-use Rattle.answer_lines.specs.ReadBack.{EntriesFit, BriefFits, Writable}
+use Rattle.frame_replies.specs.ReadBack.{EntriesFit, BriefFits, Writable}
 use Rattle.frame_answers.specs.Step.{Kept, Answered, entryCount, keeping, changedBy, changed, readReply, readLine, placeReply, placeLine, clearLine, cleared, taped, leafReply, leafReplies, leavesOf, sheetReplies, printReplies, printLines, answerTo}
 use Rattle.frame_answers.specs.Fits.{StoreFits}
 

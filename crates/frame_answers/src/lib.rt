@@ -3,11 +3,11 @@ ghost use mathlib.Core.Path.{_≡_};
 ghost use mathlib.Core.List.{[]};
 ghost use Prim.Native.Nat.{_≤_};
 ghost use lib.ListN.{length, getD, replicate};
-ghost use Rattle.outcomes.specs.Call as call;
-ghost use Rattle.outcomes.specs.Outcome.{storeOf, outcome};
+ghost use Rattle.call_outcomes.specs.Call as call;
+ghost use Rattle.call_outcomes.specs.Outcome.{storeOf, outcome};
 ghost use Rattle.frame_lines.specs.Frame.{frameOf, wordsOf};
-ghost use Rattle.answer_lines.specs.Reply.{brief, lineOf};
-ghost use Rattle.answer_lines.specs.Wrote.{Wrote};
+ghost use Rattle.frame_replies.specs.Reply.{brief, lineOf};
+ghost use Rattle.frame_replies.specs.Wrote.{Wrote};
 ghost use Rattle.frame_answers.specs.Step.{readLine, placeLine, taped};
 ghost use Rattle.frame_answers.specs.Gives.{keptOf, Gives, ClearGives};
 
@@ -33,7 +33,7 @@ pub fn answer(output: &mut [u8], kind: u64, number: usize, counts: &[u16]) -> us
     ensures { λ r. ⌜ Wrote (now (output .entry)) 0 (lineOf (brief kind number (getD (now (counts .entry)) 1 0))) (now (output .exit)) r ⌝ }
 {
     let n = entry_count(counts);
-    answer_lines::put_brief(output, 0, kind, number as u64, n)
+    frame_replies::put_brief(output, 0, kind, number as u64, n)
 }
 
 // A read of at most 64 entries.
@@ -51,14 +51,14 @@ pub fn read_line(
         (now (output .exit)) r ⌝ }
 {
     let mut list = [0u64; 64];
-    let back = packed_sheet::read(slots, counts, first, last, &mut list).returned();
+    let back = sheet_calls::read(slots, counts, first, last, &mut list).returned();
     let number = back.number;
     if number != 0 {
         return answer(output, 131, number, counts);
     }
     let count = back.first;
     let n = entry_count(counts);
-    answer_lines::put_read(output, 0, n, &list[..count])
+    frame_replies::put_read(output, 0, n, &list[..count])
 }
 
 // A place.
@@ -69,13 +69,13 @@ pub fn place_line(slots: &[u64], counts: &[u16], rank: usize, output: &mut [u8])
         (storeOf (now (slots .entry)) (now (counts .entry)))))
         (now (output .exit)) r ⌝ }
 {
-    let back = packed_sheet::place(slots, counts, rank).returned();
+    let back = sheet_calls::place(slots, counts, rank).returned();
     let number = back.number;
     if number != 0 {
         return answer(output, 135, number, counts);
     }
     let n = entry_count(counts);
-    answer_lines::put_place(output, 0, n, back.first as u64, back.second as u64)
+    frame_replies::put_place(output, 0, n, back.first as u64, back.second as u64)
 }
 
 // A clear.
@@ -84,7 +84,7 @@ pub fn clear_line(slots: &mut [u64], counts: &mut [u16], output: &mut [u8]) -> u
     ensures { λ r. ⌜ ClearGives (outcome call.clubs call.clear [] (storeOf (now (slots .entry)) (now (counts .entry))) [])
         (now (output .entry)) r (storeOf (now (slots .exit)) (now (counts .exit))) (now (output .exit)) ⌝ }
 {
-    let back = packed_sheet::clear(slots, counts).returned();
+    let back = sheet_calls::clear(slots, counts).returned();
     answer(output, 134, back.number, counts)
 }
 
@@ -113,7 +113,7 @@ pub fn tape_line(
             waiting: waiting,
         };
     }
-    waiting_tape::add_words(line, words, tape, waiting);
+    frame_tape::add_words(line, words, tape, waiting);
     let bytes = answer(output, 132, 0, counts);
     Stepped {
         bytes: bytes,

@@ -1,9 +1,9 @@
--- The frames that only ask, and their answers. Definitions only: they assume nothing.
+-- The frames that only ask, and their answers. Definitions only.
 use mathlib.Core.List.{List, []}
-use Rattle.layout.specs.Layout.{Store}
+use Rattle.store_layout.specs.Layout.{Store}
 use Rattle.frame_lines.specs.declared.Frame.{Frame}
 use Rattle.frame_lines.specs.declared.Frame.the-variants.{Insert, Delete, Read, Tape, Print, Clear, Place, NoFrame}
-use Rattle.answer_lines.specs.Reply.{Reply}
+use Rattle.frame_replies.specs.Reply.{Reply}
 use Rattle.frame_answers.specs.Step.{answerTo}
 use Rattle.frame_answers.specs.Gives.{keptOf}
 

@@ -1,15 +1,15 @@
--- A frame that only asks is answered, and everything is kept. Assumes nothing.
+-- A frame that only asks is answered, and everything is kept.
 use mathlib.Core.Path.{_≡_}
 use mathlib.Core.List.{List, []}
 use Prim.Native.Nat.{ℕ}
 use lib.ListN.{getD, replicate}
-use Rattle.layout.specs.Layout.{Store}
-use Rattle.outcomes.specs.Call as call
-use Rattle.outcomes.specs.Outcome.{storeOf, outcome}
+use Rattle.store_layout.specs.Layout.{Store}
+use Rattle.call_outcomes.specs.Call as call
+use Rattle.call_outcomes.specs.Outcome.{storeOf, outcome}
 use Rattle.frame_lines.specs.declared.Frame.{Frame}
 use Rattle.frame_lines.specs.declared.Frame.the-variants.{Insert, Delete, Read, Tape, Print, Clear, Place, NoFrame}
-use Rattle.answer_lines.specs.Reply.{brief, lineOf, bytesOf}
-use Rattle.answer_lines.specs.Wrote.{Wrote}
+use Rattle.frame_replies.specs.Reply.{brief, lineOf, bytesOf}
+use Rattle.frame_replies.specs.Wrote.{Wrote}
 use Rattle.frame_answers.specs.Step.{answerTo, keeping, entryCount, readLine, placeLine, printLines}
 use Rattle.frame_answers.specs.StepLaws.{one-line, printed-gives}
 use Rattle.frame_answers.specs.Gives.{keptOf, Gives}

@@ -4,10 +4,10 @@ use frame_lines::Frame;
 ghost use mathlib.Core.Path.{_≡_};
 ghost use Prim.Native.Nat.{_≤_};
 ghost use lib.ListN.{length};
-ghost use Rattle.outcomes.specs.Outcome.{storeOf};
+ghost use Rattle.call_outcomes.specs.Outcome.{storeOf};
 ghost use Rattle.frame_lines.specs.Frame.{frameOf};
-ghost use Rattle.answer_lines.specs.Reply.{bytesOf};
-ghost use Rattle.answer_lines.specs.Wrote.{Wrote};
+ghost use Rattle.frame_replies.specs.Reply.{bytesOf};
+ghost use Rattle.frame_replies.specs.Wrote.{Wrote};
 ghost use Rattle.frame_answers.specs.Step.{answerTo, longest};
 ghost use Rattle.frame_answers.specs.Gives.{keptOf, Gives};
 ghost use Rattle.frame_dispatch.specs.Question.{Asks, repliesTo};
@@ -20,7 +20,7 @@ fn answer_question(frame: Frame, slots: &[u64], counts: &[u16], output: &mut [u8
 {
     match frame {
         Frame::Read { first, last } => frame_answers::read_line(slots, counts, first, last, output),
-        Frame::Print => print_lines::print_line(slots, counts, output),
+        Frame::Print => frame_print::print_line(slots, counts, output),
         Frame::Place { rank } => frame_answers::place_line(slots, counts, rank, output),
         _ => frame_answers::answer(output, 255, 8, counts),
     }
@@ -46,9 +46,9 @@ pub fn answer_frame(
 {
     match frame {
         Frame::Insert { rank, entry } => {
-            change_lines::insert_line(slots, counts, tape, waiting, rank, entry, output)
+            frame_changes::insert_line(slots, counts, tape, waiting, rank, entry, output)
         }
-        Frame::Delete { rank } => change_lines::delete_line(
+        Frame::Delete { rank } => frame_changes::delete_line(
             slots,
             counts,
             tape,

@@ -1,4 +1,4 @@
--- A line of more than 130 bytes is no frame, so that the first 256 bytes of a line tell what frame it is. Assumes nothing.
+-- A line of more than 130 bytes is no frame, so that the first 256 bytes of a line tell what frame it is.
 use mathlib.Core.Path.{_≡_, refl, ap, sym, _∙_}
 use mathlib.Core.Logic.{_⊎_, inl, inr, ⊎-elim}
 use mathlib.Core.List.{List}

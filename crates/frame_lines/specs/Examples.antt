@@ -1,4 +1,4 @@
--- The definition of a frame on written lines: those of document 01's example, and lines that are no frame. Assumes nothing.
+-- The definition of a frame on written lines: those of document 01's example, and lines that are no frame.
 use mathlib.Core.Path.{_≡_, refl}
 use mathlib.Core.List.{List, [], _∷_}
 use Prim.Native.Nat.{ℕ}

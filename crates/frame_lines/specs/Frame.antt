@@ -1,5 +1,5 @@
 -- A line of bytes read as a frame (document 01, "Frames"): upper-case hexadecimal pairs, high byte first.
--- Definitions only: they assume nothing.
+-- Definitions only.
 use mathlib.Core.Bool.{Bool, true, false, _&&_}
 use mathlib.Core.List.{List, [], _∷_}
 use Prim.Native.Nat.{ℕ, zero, suc, _+_, _-_, _*_, _/_, _%_}

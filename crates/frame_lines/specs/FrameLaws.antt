@@ -1,5 +1,5 @@
 -- Laws of frames: how a line is tested from a place on, that c digits write a number below 16 ^ c, which test decides a frame, a proof by
--- the cases of a frame, and that the words of a tape lie within its line. Assumes nothing.
+-- the cases of a frame, and that the words of a tape lie within its line.
 use mathlib.Core.Path.{_≡_, refl, ap, sym, _∙_}
 use mathlib.Core.Bool.{Bool, true, false}
 use mathlib.Core.Logic.{_≢_}

@@ -1,9 +1,9 @@
--- A step made by a C program, which keeps the number of waiting words in a slice. Definitions only: they assume nothing.
+-- A step made by a C program, which keeps the number of waiting words in a slice. Definitions only.
 use mathlib.Core.List.{List}
 use Prim.Native.Nat.{ℕ}
 use lib.ListN.{length, getD, set}
 use Rattle.base.specs.Cases.{ifLt}
-use Rattle.layout.specs.Layout.{Store}
+use Rattle.store_layout.specs.Layout.{Store}
 use Rattle.frame_answers.specs.Step.{Step, stepOf}
 use Rattle.frame_answers.specs.Gives.{keptOf}
 

@@ -1,10 +1,10 @@
--- When a step for a C program is made. Assumes nothing.
+-- When a step for a C program is made.
 use mathlib.Core.Path.{_≡_, sym}
 use mathlib.Core.List.{List}
 use Prim.Native.Nat.{ℕ, _≤_, _<_}
 use lib.ListN.{length, getD, set}
 use Rattle.base.specs.CaseLaws.{ifLt-yes, ifLt-no}
-use Rattle.layout.specs.Layout.{Store}
+use Rattle.store_layout.specs.Layout.{Store}
 use Rattle.frame_answers.specs.Step.{stepOf}
 use Rattle.frame_answers.specs.Gives.{keptOf}
 use Rattle.frames.specs.FrameStep.{withWaiting, frameStep}

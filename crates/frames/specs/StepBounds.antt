@@ -1,4 +1,4 @@
--- Bounds of a step: its answer lies within the output, and no more than 1,024 words wait after it. Assumes nothing.
+-- Bounds of a step: its answer lies within the output, and no more than 1,024 words wait after it.
 use mathlib.Core.Path.{_≡_}
 use mathlib.Core.List.{List}
 use Prim.Native.Nat.{ℕ, _+_, _≤_}
@@ -8,7 +8,7 @@ use Rattle.base.specs.CaseLaws.{by-eq, by-lt}
 use Rattle.frame_lines.specs.declared.Frame.{Frame}
 use Rattle.frame_lines.specs.declared.Frame.the-variants.{Insert, Delete, Read, Tape, Print, Clear, Place, NoFrame}
 use Rattle.frame_lines.specs.Frame.{frameOf}
-use Rattle.answer_lines.specs.Reply.{bytesOf}
+use Rattle.frame_replies.specs.Reply.{bytesOf}
 use Rattle.frame_answers.specs.Step.{Kept, Answered, Step, keeping, changedBy, changed, cleared, taped, answerTo, handed, stepOf}
 
 -- ---- the bytes of the answer

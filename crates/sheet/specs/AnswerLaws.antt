@@ -1,4 +1,4 @@
--- What the program's parts come to together: an input that comes in chunks is answered line by line, whatever the chunks. Assumes nothing.
+-- What the program's parts come to together: an input that comes in chunks is answered line by line, whatever the chunks.
 use mathlib.Core.Path.{_≡_, refl, ap, _∙_}
 use mathlib.Core.Logic.{⊎-elim}
 use mathlib.Core.List.{List, [], _∷_, map}
@@ -6,9 +6,9 @@ use Prim.Native.Nat.{ℕ}
 use lib.ListN.{length, take}
 use Rattle.frame_lines.specs.Frame.{frameOf}
 use Rattle.frame_lines.specs.CutLaws.{cut-same}
-use Rattle.line_input.specs.Lines.{linesOf}
-use Rattle.line_input.specs.Chunks.{joined, linesOver}
-use Rattle.line_input.specs.LineLaws.{lines-cut}
+use Rattle.frame_input.specs.Lines.{linesOf}
+use Rattle.frame_input.specs.Chunks.{joined, linesOver}
+use Rattle.frame_input.specs.LineLaws.{lines-cut}
 use Rattle.frame_answers.specs.Step.{Kept, answerTo, answersTo}
 
 -- The front of a line, its first 256 bytes, is answered as the line is.

@@ -1,4 +1,4 @@
--- What the program holds between two lines lies within its buffers. Definitions only: they assume nothing.
+-- What the program holds between two lines lies within its buffers. Definitions only.
 use Prim.Native.Nat.{_≤_}
 use Rattle.sheet.specs.declared.State.{State}
 

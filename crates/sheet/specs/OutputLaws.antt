@@ -1,4 +1,4 @@
--- What the program writes parts again at its LFs, line by line, into the replies that it gave. Assumes nothing.
+-- What the program writes parts again at its LFs, line by line, into the replies that it gave.
 use mathlib.Core.Path.{_≡_, refl, ap, ap₂, _∙_}
 use mathlib.Core.Bool.{false}
 use mathlib.Core.Logic.{_≢_}
@@ -8,12 +8,12 @@ use native.Mathlib.Omega.{arith}
 use Rattle.base.specs.Lists.{Every}
 use Rattle.base.specs.ListLaws.{every-append}
 use Rattle.base.specs.CaseLaws.{by-lt}
-use Rattle.line_input.specs.Lines.{linesOf, hasLf}
-use Rattle.line_input.specs.CollectLaws.{has-other}
-use Rattle.line_input.specs.LineLaws.{lines-ended}
-use Rattle.answer_lines.specs.Reply.{hexDigit, digits, entryDigits, header, Reply, brief, entries, placed, sheet, leaf, encode, lineOf, bytesOf}
-use Rattle.answer_lines.specs.ReadBack.{replyOf, Writable}
-use Rattle.answer_lines.specs.ReadBackLaws.{reply-back}
+use Rattle.frame_input.specs.Lines.{linesOf, hasLf}
+use Rattle.frame_input.specs.CollectLaws.{has-other}
+use Rattle.frame_input.specs.LineLaws.{lines-ended}
+use Rattle.frame_replies.specs.Reply.{hexDigit, digits, entryDigits, header, Reply, brief, entries, placed, sheet, leaf, encode, lineOf, bytesOf}
+use Rattle.frame_replies.specs.ReadBack.{replyOf, Writable}
+use Rattle.frame_replies.specs.ReadBackLaws.{reply-back}
 use Rattle.frame_lines.specs.declared.Frame.{Frame}
 use Rattle.frame_answers.specs.Step.{Kept, answerTo}
 use Rattle.frame_answers.specs.Fits.{StoreFits}

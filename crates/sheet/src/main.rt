@@ -4,7 +4,7 @@ ghost use lib.ListN.{length};
 ghost use Rattle.frame_answers.specs.Step.{longest};
 ghost use Rattle.sheet.specs.Held.{Held};
 use frame_answers::Stepped;
-use line_input::Collected;
+use frame_input::Collected;
 
 // The longest answer, a print of the largest sheet, has so many bytes.
 const LONGEST: usize = 69012;
@@ -142,7 +142,7 @@ fn answer_chunk(
     let mut state = before;
     let mut from = 0;
     while from < n {
-        let collected = line_input::collect(chunk, from, line, state.have);
+        let collected = frame_input::collect(chunk, from, line, state.have);
         from = collected.next;
         state = answer(collected, line, slots, counts, tape, output, state);
     }

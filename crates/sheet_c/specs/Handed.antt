@@ -1,13 +1,12 @@
--- What a call made by a C program returns and leaves: the number, the store, the output and the answer slice. Definitions only: they assume
--- nothing.
+-- What a call made by a C program returns and leaves: the number, the store, the output and the answer slice. Definitions only.
 use mathlib.Core.List.{List}
 use Prim.Native.Nat.{ℕ}
 use lib.ListN.{length, set}
 use Rattle.base.specs.Cases.{ifLt}
-use Rattle.layout.specs.Layout.{Store}
-use Rattle.outcomes.specs.declared.Returned.{Returned}
-use Rattle.outcomes.specs.Call.{Call, returned, clubs}
-use Rattle.outcomes.specs.Outcome.{Outcome, outcome}
+use Rattle.store_layout.specs.Layout.{Store}
+use Rattle.call_outcomes.specs.declared.Returned.{Returned}
+use Rattle.call_outcomes.specs.Call.{Call, returned, clubs}
+use Rattle.call_outcomes.specs.Outcome.{Outcome, outcome}
 
 pub record Handed : Type 0 where
   pub number : ℕ

@@ -1,13 +1,13 @@
--- When a call is handed over. Assumes nothing.
+-- When a call is handed over.
 use mathlib.Core.Path.{_≡_, sym}
 use mathlib.Core.List.{List}
 use Prim.Native.Nat.{ℕ, _≤_, _<_}
 use lib.ListN.{length}
 use Rattle.base.specs.CaseLaws.{ifLt-yes, ifLt-no}
-use Rattle.outcomes.specs.declared.Returned.{Returned}
-use Rattle.outcomes.specs.declared.Answer.{Answer}
-use Rattle.outcomes.specs.Call.{Call, returned, clubs}
-use Rattle.outcomes.specs.Outcome.{storeOf, left, outcome}
+use Rattle.call_outcomes.specs.declared.Returned.{Returned}
+use Rattle.call_outcomes.specs.declared.Answer.{Answer}
+use Rattle.call_outcomes.specs.Call.{Call, returned, clubs}
+use Rattle.call_outcomes.specs.Outcome.{storeOf, outcomeOf, outcome}
 use Rattle.sheet_c.specs.Handed.{filled, handedBy, handed}
 
 module _ (call : Call) (tape slots counts output answer : List ℕ) where
@@ -20,7 +20,7 @@ module _ (call : Call) (tape slots counts output answer : List ℕ) where
 
   -- an answer slice with room
   pub handed-done : 2 ≤ length answer → (given : Answer) (slots′ counts′ output′ : List ℕ)
-      → left given slots′ counts′ output′ ≡ outcome clubs call tape (storeOf slots counts) output
+      → outcomeOf given slots′ counts′ output′ ≡ outcome clubs call tape (storeOf slots counts) output
       → (back : Returned) → back ≡ returned given
       → (r : ℕ) (answer′ : List ℕ) → (r ≡ back .number) × (answer′ ≡ filled back answer)
       → record { number = r; store = storeOf slots′ counts′; output = output′; answer = answer′ }

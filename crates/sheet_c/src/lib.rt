@@ -3,11 +3,11 @@ ghost use mathlib.Core.Path.{_≡_};
 ghost use mathlib.Core.List.{[]};
 ghost use Prim.Native.Nat.{_≤_};
 ghost use lib.ListN.{length};
-ghost use Rattle.outcomes.specs.Call as call;
-ghost use Rattle.outcomes.specs.Outcome.{storeOf};
+ghost use Rattle.call_outcomes.specs.Call as call;
+ghost use Rattle.call_outcomes.specs.Outcome.{storeOf};
 ghost use Rattle.sheet_c.specs.Handed.{filled, handed};
-use outcomes::Returned;
-use rules::Change;
+use call_outcomes::Returned;
+use tree_rules::Change;
 
 // Puts the two values at the front of the answer slice, and gives the number.
 fn hand(back: Returned, answer: &mut [u64]) -> usize
@@ -28,7 +28,7 @@ pub extern "C" fn sheet_clear(slots: &mut [u64], counts: &mut [u16], answer: &mu
     if answer.len() < 2 {
         return 255;
     }
-    hand(packed_sheet::clear(slots, counts).returned(), answer)
+    hand(sheet_calls::clear(slots, counts).returned(), answer)
 }
 
 // Makes the change of the list, with the entry of an insert.
@@ -47,7 +47,7 @@ fn hand_change(
         return 255;
     }
     hand(
-        packed_sheet::make_change(slots, counts, change, entry, tape).returned(),
+        sheet_calls::make_change(slots, counts, change, entry, tape).returned(),
         answer,
     )
 }
@@ -100,7 +100,7 @@ pub extern "C" fn sheet_read(
         return 255;
     }
     hand(
-        packed_sheet::read(slots, counts, first, last, output).returned(),
+        sheet_calls::read(slots, counts, first, last, output).returned(),
         answer,
     )
 }
@@ -119,7 +119,7 @@ pub extern "C" fn sheet_place(
     if answer.len() < 2 {
         return 255;
     }
-    hand(packed_sheet::place(slots, counts, rank).returned(), answer)
+    hand(sheet_calls::place(slots, counts, rank).returned(), answer)
 }
 
 // The number of entries of a sheet.
@@ -131,5 +131,5 @@ pub extern "C" fn sheet_check(slots: &[u64], counts: &[u16], answer: &mut [u64])
     if answer.len() < 2 {
         return 255;
     }
-    hand(packed_sheet::check(slots, counts).returned(), answer)
+    hand(sheet_calls::check(slots, counts).returned(), answer)
 }

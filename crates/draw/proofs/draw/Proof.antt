@@ -1,6 +1,5 @@
 -- `draw::draw` meets its contract: a walk of its MIR, by hand. The place is made in a local and lent for a new lifetime, `draw_and_advance` is
 -- called, the lifetime ends and the place comes back at its last value, and `DrawnFace::with_place` puts its number beside the face.
--- Assumes nothing.
 use mathlib.Core.Path.{_≡_, refl, ap₂, _∙_}
 use Prim.Native.Nat.{ℕ, _<_, _^_}
 use mathlib.Core.List.{[], _∷_, List}
@@ -46,7 +45,7 @@ use denote.Signature.{plain}
 use Rattle.draw.specs.declared.Drawn.{Drawn}
 use Rattle.draw.specs.declared.DrawnFace.{DrawnFace}
 use Rattle.draw.specs.declared.TapePlace.{TapePlace}
-use Rattle.draw.specs.Draw.{drawAt, placeAfter, faceOf, drawnOf}
+use Rattle.draw.specs.Draw.{drawAt, tapePlaceAfter, faceOf, drawnOf}
 use Rattle.draw.specs.DrawLaws.{draw-apart}
 use Rattle.draw.proofs.PlaceCell.{R, h, mach, cell-in, cell-out}
 use Rattle.draw.proofs.TapePlace.Laws as T′
@@ -196,8 +195,8 @@ module _ {M : Type 1} (𝓤 : URA M) (H : Heap 𝓤) (A : Atoms 𝓤) (W : Given
         raw (ensured 𝓤 H A advance.ended (advance.clauses 𝓤 H A at-mem run) (κ, (α ∷ [], tt)) (args l₄ α γ) tt f)))) (id⊢ 𝓤 _) $ await ! tt $ pick ! (λ f.
         split ! $ move ! (1 ∷ []) $
         use1 W (some (λ (zs : Unit {0} × (TapePlace × (Unit {0} × Unit {0}))). ‵ (lasts advance.ended (κ, (α ∷ [], tt)) (args l₄ α γ) zs) ⊛
-        raw (fact 𝓤 ((f ≡ faceOf found) × (zs .1 .0 .at ≡ placeAfter n found))))) (id⊢ 𝓤 _) $ pick ! (λ zs.
-        split ! $ move ! (1 ∷ []) $ heard ! ((f ≡ faceOf found) × (zs .1 .0 .at ≡ placeAfter n found)) (λ e. fsplit ! $ drop ! $ fsplit ! $
+        raw (fact 𝓤 ((f ≡ faceOf found) × (zs .1 .0 .at ≡ tapePlaceAfter n found))))) (id⊢ 𝓤 _) $ pick ! (λ zs.
+        split ! $ move ! (1 ∷ []) $ heard ! ((f ≡ faceOf found) × (zs .1 .0 .at ≡ tapePlaceAfter n found)) (λ e. fsplit ! $ drop ! $ fsplit ! $
         move ! (1 ∷ []) $ drop ! $
         -- [the place's last value; the tokens and what the face owns; the tape; the lender's part; _7 at 4; ..]
         move ! (1 ∷ []) $ split ! $ split ! $ move ! (1 ∷ []) $ split ! $

@@ -1,5 +1,5 @@
 -- `draw::draw_and_advance` meets its contract: a walk of its MIR, by hand. The borrow of the place is opened, its number is read, `draw_at`,
--- `Drawn::place` and `Drawn::face` are called, the new number is stored between the last two, and the borrow is closed. Assumes nothing.
+-- `Drawn::tape_place` and `Drawn::face` are called, the new number is stored between the last two, and the borrow is closed.
 use mathlib.Core.Path.{_≡_, refl, ap, _∙_}
 use Prim.Native.Nat.{ℕ, _<_, _^_}
 use mathlib.Core.List.{[], _∷_, List}
@@ -43,7 +43,7 @@ use denote.Triple.Walked.{says, Stays, stay-ref, stay-none, stay-none-slice, wal
 use denote.Exit.{yes}
 use denote.Signature.{plain}
 use Rattle.draw.specs.declared.Drawn.{Drawn}
-use Rattle.draw.specs.Draw.{drawAt, placeAfter, faceOf}
+use Rattle.draw.specs.Draw.{drawAt, tapePlaceAfter, faceOf}
 use Rattle.draw.specs.declared.TapePlace.{TapePlace}
 use Rattle.draw.specs.declared.DrawnFace.{DrawnFace}
 use Rattle.draw.proofs.PlaceCell.{R, h, mach, fits, made}
@@ -57,10 +57,10 @@ use Rattle.draw.proofs.draw_at as draw-at
 use Rattle.draw.proofs.draw_at.Symbol as draw-at-def
 use Rattle.draw.proofs.draw_at.Symbol.{name as #draw·draw-at}
 use Rattle.draw.proofs.draw_at.Met as draw-at-thm
-use Rattle.draw.proofs.Drawn.place as place-of
-use Rattle.draw.proofs.Drawn.place.Symbol as place-of-def
-use Rattle.draw.proofs.Drawn.place.Symbol.{name as #draw·Drawn·place}
-use Rattle.draw.proofs.Drawn.place.Met as place-of-thm
+use Rattle.draw.proofs.Drawn.tape_place as place-of
+use Rattle.draw.proofs.Drawn.tape_place.Symbol as place-of-def
+use Rattle.draw.proofs.Drawn.tape_place.Symbol.{name as #draw·Drawn·tape-place}
+use Rattle.draw.proofs.Drawn.tape_place.Met as place-of-thm
 use Rattle.draw.proofs.Drawn.face as face-of
 use Rattle.draw.proofs.Drawn.face.Symbol as face-of-def
 use Rattle.draw.proofs.Drawn.face.Symbol.{name as #draw·Drawn·face}
@@ -85,8 +85,8 @@ module _ {M : Type 1} (𝓤 : URA M) (H : Heap 𝓤) (A : Atoms 𝓤) (at-mem : 
   Face′ = tripleOf 𝓤 H A face-of.signature (face-of.spec 𝓤 H A at-mem run)
 
   place-said : (n : ℕ) (d : Drawn) (r : ℕ) → ent 𝓤 (ensured 𝓤 H A place-of.ended (place-of.clauses 𝓤 H A at-mem run) tt (d, (n, tt)) tt r)
-      (fact 𝓤 (r ≡ placeAfter n d))
-  place-said n d r = exE 𝓤 _ (λ ws. snd∗ 𝓤 (sem 𝓤 H A (lasts place-of.ended tt (d, (n, tt)) ws)) (fact 𝓤 (r ≡ placeAfter n d)))
+      (fact 𝓤 (r ≡ tapePlaceAfter n d))
+  place-said n d r = exE 𝓤 _ (λ ws. snd∗ 𝓤 (sem 𝓤 H A (lasts place-of.ended tt (d, (n, tt)) ws)) (fact 𝓤 (r ≡ tapePlaceAfter n d)))
 
   face-said : (d : Drawn) (r : DrawnFace) → ent 𝓤 (ensured 𝓤 H A face-of.ended (face-of.clauses 𝓤 H A at-mem run) tt (d, tt) tt r)
       (fact 𝓤 (r ≡ faceOf d))
@@ -139,7 +139,7 @@ module _ {M : Type 1} (𝓤 : URA M) (H : Heap 𝓤) (A : Atoms 𝓤) (W : Given
   draw-said : (r : Drawn) → ent 𝓤 (ensured 𝓤 H A draw-at.ended (draw-at.clauses 𝓤 H A at-mem run) (κ, tt) (s, (n, (m, tt))) tt r) (fact 𝓤 (r ≡ found))
   draw-said r = exE 𝓤 _ (λ ws. snd∗ 𝓤 (sem 𝓤 H A (lasts draw-at.ended (κ, tt) (s, (n, (m, tt))) ws)) (fact 𝓤 (r ≡ found)))
 
-  -- the call of `Drawn::place`
+  -- the call of `Drawn::tape_place`
   abbrev to-place : Drawn → Val → Place′ 𝓤 H A at-mem run .Ghost
   to-place d w = ((tt, tt, tt, (d, (n, tt)), (w ∷ [], (vint w64 n ∷ [], tt))), tt)
 
@@ -155,7 +155,7 @@ module _ {M : Type 1} (𝓤 : URA M) (H : Heap 𝓤) (A : Atoms 𝓤) (W : Given
   goes-face : (d : Drawn) (w : Val) → ent 𝓤 (sem 𝓤 H A (D.the-row .own d (w ∷ []))) (Face′ 𝓤 H A at-mem run .pre (to-face d w))
   goes-face d w = qed W (‵ (D.the-row .own d (w ∷ [])) ∷ []) ∵ nothing ! $ move ! (1 ∷ 0 ∷ []) $ join ! $ nothing ! $ join ! $ frame ! $ done !
 
-  exits : (f : DrawnFace) (u : Val) (k : ℕ) → (f ≡ faceOf found) × (k ≡ placeAfter n found)
+  exits : (f : DrawnFace) (u : Val) (k : ℕ) → (f ≡ faceOf found) × (k ≡ tapePlaceAfter n found)
       → ent 𝓤 (⋆ 𝓤 H A (‵ (F.the-row .own f (u ∷ [])) ∷ ‵ (fobs γ (R .coded .code (h k))) ∷ ‵ (fbor κ′ (Body (mem R) b o γ)) ∷ ‵ (flft κ′ q′) ∷
       (‵ (flft κ q) ⊛ ‵ ftrue) ∷ ‵ Own ∷ [])) (Post u)
   exits f u k e =
@@ -171,7 +171,7 @@ module _ {M : Type 1} (𝓤 : URA M) (H : Heap 𝓤) (A : Atoms 𝓤) (W : Given
       fjoin ! $ move ! (2 ∷ 0 ∷ []) $ fjoin ! $ frame ! $ done !
 
   module _ (C : Calls 𝓤 H) (Λ : Loops 𝓤 H) (fm : FmC 𝓤 H (W .laws) C) (known-draw : Triple 𝓤 (C #draw·draw-at) (Draw′ 𝓤 H A at-mem run))
-      (known-place : Triple 𝓤 (C #draw·Drawn·place) (Place′ 𝓤 H A at-mem run))
+      (known-place : Triple 𝓤 (C #draw·Drawn·tape-place) (Place′ 𝓤 H A at-mem run))
       (known-face : Triple 𝓤 (C #draw·Drawn·face) (Face′ 𝓤 H A at-mem run)) where
     walk : Is (ShrSlice (named 0) κ u32) s (v ∷ []) → ent 𝓤 (onEntry 𝓤 H A advance.signature (κ, (κ′, tt)) (q, (q′, tt)) a vals)
         (WpFn 𝓤 H C Λ code.function (v ∷ vptr b o ∷ vint w64 m ∷ []) Post)
@@ -206,8 +206,8 @@ module _ {M : Type 1} (𝓤 : URA M) (H : Heap 𝓤) (A : Atoms 𝓤) (W : Given
         (and-then ! (load ! (from ! (stop !)) (look ! 12 refl)) (and-then ! (load ! (from ! (stop !)) (look ! 14 refl)) (no-more !))) (λ w′.
         use1 W (later (some (λ (k : ℕ). (‵ ftrue ⊛ ‵ (usize .own k (w′ ∷ []))) ⊛
         raw (ensured 𝓤 H A place-of.ended (place-of.clauses 𝓤 H A at-mem run) tt (r, (n, tt)) tt k)))) (id⊢ 𝓤 _) $ await ! tt $ pick ! (λ k.
-        split ! $ move ! (1 ∷ []) $ use1 W (raw (fact 𝓤 (k ≡ placeAfter n r))) (place-said 𝓤 H A at-mem run n r k) $
-        heard ! (k ≡ placeAfter n r) (λ e′. split ! $ drop ! $
+        split ! $ move ! (1 ∷ []) $ use1 W (raw (fact 𝓤 (k ≡ tapePlaceAfter n r))) (place-said 𝓤 H A at-mem run n r k) $
+        heard ! (k ≡ tapePlaceAfter n r) (λ e′. split ! $ drop ! $
         -- [what the number owns; κ and true; the tape; the cell; what a TapePlace owns; the open borrow; obs; auth; true; m's; _6 at 10; ..]
         peeks ! usize (Is usize) (shows 𝓤 H A usize) k (w′ ∷ []) (λ is′.
         land ! (from ! (stop !)) (init ! 10 refl (uint-lawful 𝓤 H A W w64 .typed k _ is′ .0)) $
@@ -232,11 +232,11 @@ module _ {M : Type 1} (𝓤 : URA M) (H : Heap 𝓤) (A : Atoms 𝓤) (W : Given
         forget ! 21 refl $
         move ! (21 ∷ 22 ∷ []) $ free1 ! $ move ! (19 ∷ 20 ∷ []) $ free1 ! $ move ! (17 ∷ 18 ∷ []) $ free1 ! $ move ! (15 ∷ 16 ∷ []) $ free1 ! $
         move ! (13 ∷ 14 ∷ []) $ free1 ! $ move ! (11 ∷ 12 ∷ []) $ free1 ! $ move ! (9 ∷ 10 ∷ []) $ free1 ! $ free0 ! $
-        keep ! (0 ∷ 1 ∷ 2 ∷ 3 ∷ 5 ∷ 6 ∷ []) $ by ! (exits f u k (e″ ∙ ap faceOf e, e′ ∙ ap (placeAfter n) e)))))))))))))))))))))))
+        keep ! (0 ∷ 1 ∷ 2 ∷ 3 ∷ 5 ∷ 6 ∷ []) $ by ! (exits f u k (e″ ∙ ap faceOf e, e′ ∙ ap (tapePlaceAfter n) e)))))))))))))))))))))))
 
 module _ {M : Type 1} (𝓤 : URA M) (H : Heap 𝓤) (A : Atoms 𝓤) (W : Given 𝓤 H A) (mem : Memory → SProp 𝓤) (run : Routine → Fun 𝓤) where
   advance-walks : (C : Calls 𝓤 H) (Λ : Loops 𝓤 H) → FmC 𝓤 H (W .laws) C → Triple 𝓤 (C #draw·draw-at) (Draw′ 𝓤 H A mem run)
-      → Triple 𝓤 (C #draw·Drawn·place) (Place′ 𝓤 H A mem run) → Triple 𝓤 (C #draw·Drawn·face) (Face′ 𝓤 H A mem run)
+      → Triple 𝓤 (C #draw·Drawn·tape-place) (Place′ 𝓤 H A mem run) → Triple 𝓤 (C #draw·Drawn·face) (Face′ 𝓤 H A mem run)
       → Walks 𝓤 H A advance.ended stayed (WpFn 𝓤 H C Λ code.function) (advance.clauses 𝓤 H A mem run)
   advance-walks C Λ fm kd kp kf = walked 𝓤 H A advance.ended stayed (advance.clauses 𝓤 H A mem run) (WpFn 𝓤 H C Λ code.function)
       (λ κs. (slice-vals, (ptr-vals, (uint-vals w64, tt))))
@@ -246,7 +246,7 @@ module _ {M : Type 1} (𝓤 : URA M) (H : Heap 𝓤) (A : Atoms 𝓤) (W : Given
       (a .1 .1 .0) (are .1 .1 .0 .1) C Λ fm kd kp kf (are .0)))
 
 advance-meets : {M : Type 1} (𝓤 : URA M) (H : Heap 𝓤) (A : Atoms 𝓤) → Given 𝓤 H A → (mem : Memory → SProp 𝓤) (run : Routine → Fun 𝓤) (𝓣 : Tables 𝓤 H)
-    → Triple 𝓤 (𝓣 .C #draw·draw-at) (Draw′ 𝓤 H A mem run) → Triple 𝓤 (𝓣 .C #draw·Drawn·place) (Place′ 𝓤 H A mem run)
+    → Triple 𝓤 (𝓣 .C #draw·draw-at) (Draw′ 𝓤 H A mem run) → Triple 𝓤 (𝓣 .C #draw·Drawn·tape-place) (Place′ 𝓤 H A mem run)
     → Triple 𝓤 (𝓣 .C #draw·Drawn·face) (Face′ 𝓤 H A mem run)
     → Meets 𝓤 H A advance.signature (WpFn 𝓤 H (𝓣 .C) (𝓣 .Λ) code.function) (advance.spec 𝓤 H A mem run)
 advance-meets 𝓤 H A W mem run 𝓣 kd kp kf =
@@ -265,7 +265,7 @@ draw-and-advance-spec 𝓤 H 𝓜 𝓖 𝓡 =
     (advance-meets 𝓤 H (𝓖 .A) (givenOf 𝓤 H 𝓜 𝓖) (𝓜 .mem) (𝓡 .run) (tablesOf 𝓤 H 𝓜 (tables 𝓤 H 𝓜 𝓡 code.env))
     (cited 𝓤 H (Draw′ 𝓤 H (𝓖 .A) (𝓜 .mem) (𝓡 .run)) 𝓜 𝓡 code.env #draw·draw-at draw-at-def.routine code.calls-draw·draw-at
     (draw-at-thm.met 𝓤 H 𝓜 𝓖 𝓡))
-    (cited 𝓤 H (Place′ 𝓤 H (𝓖 .A) (𝓜 .mem) (𝓡 .run)) 𝓜 𝓡 code.env #draw·Drawn·place place-of-def.routine code.calls-draw·Drawn·place
+    (cited 𝓤 H (Place′ 𝓤 H (𝓖 .A) (𝓜 .mem) (𝓡 .run)) 𝓜 𝓡 code.env #draw·Drawn·tape-place place-of-def.routine code.calls-draw·Drawn·tape-place
     (place-of-thm.met 𝓤 H 𝓜 𝓖 𝓡))
     (cited 𝓤 H (Face′ 𝓤 H (𝓖 .A) (𝓜 .mem) (𝓡 .run)) 𝓜 𝓡 code.env #draw·Drawn·face face-of-def.routine code.calls-draw·Drawn·face
     (face-of-thm.met 𝓤 H 𝓜 𝓖 𝓡)))

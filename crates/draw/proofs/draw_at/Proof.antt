@@ -1,4 +1,4 @@
--- `draw::draw_at` meets its contract. The loop's invariant: the scan from `i` on is the scan from `at` on. Assumes nothing.
+-- `draw::draw_at` meets its contract. The loop's invariant: the scan from `i` on is the scan from `at` on.
 use mathlib.Core.Path.{_≡_, sym, _∙_}
 use Prim.Native.Nat.{_-_, _^_}
 use native.Mathlib.Omega.{arith}

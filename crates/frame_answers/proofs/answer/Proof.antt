@@ -1,4 +1,4 @@
--- `answer` meets its contract. Assumes nothing.
+-- `answer` meets its contract.
 use borrow.Author.Needs.{needs}
 use Rattle.frame_answers.proofs.answer.Statement.{statement}
 use Rattle.frame_answers.proofs.answer.Tie as tie

@@ -1,4 +1,4 @@
--- `clear_line` meets its contract. Assumes nothing.
+-- `clear_line` meets its contract.
 use borrow.Author.Needs.{needs}
 use Rattle.frame_answers.specs.StepLaws.{clear-gives}
 use Rattle.frame_answers.proofs.clear_line.Statement.{statement}

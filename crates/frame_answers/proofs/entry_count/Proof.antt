@@ -1,4 +1,4 @@
--- `entry_count` meets its contract. Assumes nothing.
+-- `entry_count` meets its contract.
 use mathlib.Core.Path.{sym}
 use native.Mathlib.Omega.{arith}
 use borrow.Author.Needs.{needs}

@@ -1,4 +1,4 @@
--- `place_line` meets its contract. Assumes nothing.
+-- `place_line` meets its contract.
 use borrow.Author.Needs.{needs}
 use Rattle.frame_answers.specs.StepLaws.{place-refused, place-accepted}
 use Rattle.frame_answers.proofs.place_line.Statement.{statement}

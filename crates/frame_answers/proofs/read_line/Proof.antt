@@ -1,4 +1,4 @@
--- `read_line` meets its contract. Assumes nothing.
+-- `read_line` meets its contract.
 use mathlib.Core.Path.{sym}
 use native.Mathlib.Omega.{arith}
 use lib.Seq.{length-take-le}

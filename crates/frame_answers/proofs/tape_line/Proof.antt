@@ -1,4 +1,4 @@
--- `tape_line` meets its contract. Assumes nothing.
+-- `tape_line` meets its contract.
 use borrow.Author.Needs.{needs}
 use native.Mathlib.Omega.{arith}
 use Rattle.frame_answers.specs.StepLaws.{taped-full, taped-more}

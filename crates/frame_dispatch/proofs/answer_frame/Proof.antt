@@ -1,4 +1,4 @@
--- `answer_frame` meets its contract. Assumes nothing.
+-- `answer_frame` meets its contract.
 use mathlib.Core.Path.{refl, sym, ap, _∙_}
 use mathlib.Core.List.{[], _∷_}
 use types.Run.{OneOf, miss}

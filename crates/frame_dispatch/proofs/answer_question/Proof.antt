@@ -1,4 +1,4 @@
--- `answer_question` meets its contract. Assumes nothing.
+-- `answer_question` meets its contract.
 use mathlib.Core.Path.{_≡_, refl}
 use mathlib.Core.List.{[], _∷_}
 use types.Run.{OneOf, miss}

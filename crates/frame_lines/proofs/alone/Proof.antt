@@ -1,4 +1,4 @@
--- `alone` meets its contract: the line has 2 digits or not. Assumes nothing.
+-- `alone` meets its contract: the line has 2 digits or not.
 use mathlib.Core.Path.{sym}
 use Rattle.frame_lines.specs.FrameLaws.{length-is, length-other}
 use Rattle.frame_lines.proofs.alone.Statement.{statement}

@@ -1,4 +1,4 @@
--- `decode` meets its contract: the tests are those of the definition. Assumes nothing.
+-- `decode` meets its contract: the tests are those of the definition.
 use mathlib.Core.Path.{sym, ap, _∙_}
 use Prim.Native.Nat.{ℕ}
 use borrow.Author.Tests.{not-true, not-false}

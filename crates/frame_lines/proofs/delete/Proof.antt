@@ -1,4 +1,4 @@
--- `delete` meets its contract: the line has 6 digits, and each number is the digits of its field. Assumes nothing.
+-- `delete` meets its contract: the line has 6 digits, and each number is the digits of its field.
 use mathlib.Core.Path.{sym, ap, _∙_}
 use borrow.Author.Needs.{needs}
 use Rattle.frame_lines.specs.declared.Frame.the-variants.{Delete}

@@ -1,4 +1,4 @@
--- `form` meets its contract: each arm is a case of the definition. Assumes nothing.
+-- `form` meets its contract: each arm is a case of the definition.
 use mathlib.Core.Path.{sym, _∙_}
 use native.Mathlib.Omega.{arith}
 use denote.Ref.{now}

@@ -1,4 +1,4 @@
--- `hex_value` meets its contract: the tests are those of the definition. Assumes nothing.
+-- `hex_value` meets its contract: the tests are those of the definition.
 use mathlib.Core.Path.{sym, _∙_}
 use borrow.Author.Needs.{needs}
 use Rattle.base.specs.CaseLaws.{ifLt-yes, ifLt-no}

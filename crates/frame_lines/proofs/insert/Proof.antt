@@ -1,4 +1,4 @@
--- `insert` meets its contract: the line has 22 digits, and each number is the digits of its field. Assumes nothing.
+-- `insert` meets its contract: the line has 22 digits, and each number is the digits of its field.
 use mathlib.Core.Path.{sym, ap₂, _∙_}
 use native.Mathlib.Omega.{arith}
 use borrow.Author.Needs.{needs}

@@ -1,4 +1,4 @@
--- `is_hex_digit` meets its contract: the tests are those of the definition. Assumes nothing.
+-- `is_hex_digit` meets its contract: the tests are those of the definition.
 use mathlib.Core.Path.{sym, _∙_}
 use Rattle.base.specs.CaseLaws.{ifLt-yes, ifLt-no}
 use Rattle.frame_lines.specs.Frame.{isHexDigit}

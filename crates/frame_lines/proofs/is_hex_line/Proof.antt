@@ -1,4 +1,4 @@
--- `is_hex_line` meets its contract. The loop's invariant: the line is digits where it is digits from `i` on. Assumes nothing.
+-- `is_hex_line` meets its contract. The loop's invariant: the line is digits where it is digits from `i` on.
 use mathlib.Core.Path.{_≡_, sym, _∙_}
 use Prim.Native.Nat.{_-_, _≤_}
 use native.Mathlib.Omega.{arith}

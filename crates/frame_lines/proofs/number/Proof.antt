@@ -1,4 +1,4 @@
--- `number` meets its contract. The loop's invariant: `n` is what the first k digits write. Assumes nothing.
+-- `number` meets its contract. The loop's invariant: `n` is what the first k digits write.
 use mathlib.Core.Path.{_≡_, sym, ap, _∙_}
 use Prim.Native.Nat.{_+_, _-_, _≤_}
 use native.Mathlib.Omega.{arith}

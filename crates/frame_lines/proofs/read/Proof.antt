@@ -1,4 +1,4 @@
--- `read` meets its contract: the line has 10 digits, and each number is the digits of its field. Assumes nothing.
+-- `read` meets its contract: the line has 10 digits, and each number is the digits of its field.
 use mathlib.Core.Path.{sym, ap₂, _∙_}
 use borrow.Author.Needs.{needs}
 use Rattle.frame_lines.specs.declared.Frame.the-variants.{Read}

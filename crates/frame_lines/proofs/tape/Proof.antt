@@ -1,4 +1,4 @@
--- `tape` meets its contract: the tests are those of the definition. Assumes nothing.
+-- `tape` meets its contract: the tests are those of the definition.
 use mathlib.Core.Path.{sym, _∙_}
 use Prim.Native.Nat.{_/_}
 use native.Mathlib.Omega.{arith}

@@ -1,4 +1,4 @@
--- `word_at` meets its contract: a tape line is as long as its words, and 8 digits fit 32 bits. Assumes nothing.
+-- `word_at` meets its contract: a tape line is as long as its words, and 8 digits fit 32 bits.
 use native.Mathlib.Omega.{arith}
 use Prim.Native.Nat.{_+_, _*_}
 use denote.Ref.{now}

@@ -1,4 +1,4 @@
--- `frame_kind` meets its contract. Assumes nothing.
+-- `frame_kind` meets its contract.
 use mathlib.Core.Path.{_∙_, ap}
 use borrow.Author.Needs.{needs}
 use Rattle.frame_lines.specs.Frame.{kind, kindOf}

@@ -1,4 +1,4 @@
--- `frame_step` meets its contract. Assumes nothing.
+-- `frame_step` meets its contract.
 use borrow.Author.Needs.{needs}
 use Rattle.frames.specs.FrameStepLaws.{frame-step-none, frame-step-done}
 use Rattle.frames.proofs.frame_step.Statement.{statement}

@@ -1,4 +1,4 @@
--- `step` meets its contract. Assumes nothing.
+-- `step` meets its contract.
 use borrow.Author.Needs.{needs}
 use Rattle.frame_answers.specs.StepLaws.{step-short, step-tape, step-waiting, step-done}
 use Rattle.frames.proofs.step.Statement.{statement}

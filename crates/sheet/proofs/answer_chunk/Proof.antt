@@ -1,11 +1,11 @@
--- `answer_chunk` meets its contract. The loop's invariant: what is held lies within the buffers. Assumes nothing.
+-- `answer_chunk` meets its contract. The loop's invariant: what is held lies within the buffers.
 use mathlib.Core.Path.{_≡_, sym}
 use Prim.Native.Nat.{_-_, _≤_}
 use native.Mathlib.Omega.{arith}
 use borrow.Author.Needs.{needs}
 use lib.ListN.{length}
 use lib.Seq.{length-take-le}
-use Rattle.line_input.specs.CollectLaws.{collected-further, collected-within}
+use Rattle.frame_input.specs.CollectLaws.{collected-further, collected-within}
 use Rattle.sheet.specs.Held.{Held}
 use Rattle.sheet.proofs.answer_chunk.Statement.{statement}
 use Rattle.sheet.proofs.answer_chunk.Tie as tie

@@ -1,4 +1,4 @@
--- `flush` meets its contract. Assumes nothing.
+-- `flush` meets its contract.
 use mathlib.Core.Path.{sym}
 use borrow.Author.Needs.{needs}
 use lib.Seq.{length-take-le}

@@ -1,4 +1,4 @@
--- `run` meets its contract. The loop's invariant: what is held lies within the buffers. Assumes nothing.
+-- `run` meets its contract. The loop's invariant: what is held lies within the buffers.
 use borrow.Author.Needs.{needs}
 use Rattle.sheet.specs.Held.{Held}
 use Rattle.sheet.proofs.run.Statement.{statement}

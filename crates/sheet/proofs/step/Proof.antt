@@ -1,4 +1,4 @@
--- `step` meets its contract. Assumes nothing.
+-- `step` meets its contract.
 use mathlib.Core.Path.{sym}
 use native.Mathlib.Omega.{arith}
 use borrow.Author.Needs.{needs}

@@ -1,4 +1,4 @@
--- `hand` meets its contract. Assumes nothing.
+-- `hand` meets its contract.
 use borrow.Author.Needs.{needs}
 use Rattle.sheet_c.specs.Handed.{filled}
 use Rattle.sheet_c.proofs.hand.Statement.{statement}

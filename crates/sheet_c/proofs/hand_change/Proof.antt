@@ -1,4 +1,4 @@
--- `hand_change` meets its contract. Assumes nothing.
+-- `hand_change` meets its contract.
 use borrow.Author.Needs.{needs}
 use Rattle.sheet_c.specs.HandedLaws.{handed-short, handed-done}
 use Rattle.sheet_c.proofs.hand_change.Statement.{statement}

@@ -1,4 +1,4 @@
--- `sheet_place` meets its contract. Assumes nothing.
+-- `sheet_place` meets its contract.
 use borrow.Author.Needs.{needs}
 use Rattle.sheet_c.specs.HandedLaws.{handed-short, handed-done}
 use Rattle.sheet_c.proofs.sheet_place.Statement.{statement}

@@ -1,4 +1,4 @@
--- `draw::Drawn::face` meets its contract. Assumes nothing.
+-- `draw::Drawn::face` meets its contract.
 use borrow.Author.Needs.{needs}
 use Rattle.draw.proofs.Drawn.face.Statement.{statement}
 use Rattle.draw.proofs.Drawn.face.Tie as tie

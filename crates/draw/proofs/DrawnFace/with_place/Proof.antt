@@ -1,4 +1,4 @@
--- `draw::DrawnFace::with_place` meets its contract. Assumes nothing.
+-- `draw::DrawnFace::with_place` meets its contract.
 use borrow.Author.Needs.{needs}
 use Rattle.draw.proofs.DrawnFace.with_place.Statement.{statement}
 use Rattle.draw.proofs.DrawnFace.with_place.Tie as tie

@@ -1,0 +1,157 @@
+-- What a print comes to, and that its output has room for it.
+use mathlib.Core.Path.{_≡_, ap}
+use mathlib.Core.Logic.{_≢_}
+use mathlib.Core.Option.{some}
+use mathlib.Core.List.{List, []}
+use Prim.Native.Nat.{ℕ, suc, _+_, _-_, _*_, _^_, _≤_, _<_}
+use native.Mathlib.Omega.{arith}
+use native.Mathlib.Numerals.{add-one}
+use native.Mathlib.Nat.{mul-le-mul-right}
+use borrow.Author.Tests.{eqb-true, not-false}
+use lib.Dec.{eqb}
+use lib.ListN.{length, getD, take, drop, length-take}
+use Rattle.base.specs.BoolLaws.{and-both}
+use Rattle.base.specs.CaseLaws.{ifEq-yes, ifEq-no}
+use Rattle.tree_sizes.specs.Sizes.{height, leafSlots, slots}
+use Rattle.tree_sizes.specs.SizeLaws.{height-most}
+use Rattle.tree_sizes.specs.Capacity.{slots-2047, counts-2047}
+use Rattle.store_layout.specs.Layout.{Capacity, Store}
+use Rattle.store_layout.specs.Sheet.{Contents, shapeOf, decode}
+use Rattle.store_layout.specs.SheetLaws.{decoded, decode-sound}
+use Rattle.call_outcomes.specs.declared.Returned.{Returned}
+use Rattle.call_outcomes.specs.declared.Answer.{Answer}
+use Rattle.call_outcomes.specs.Call.{check, returned, clubs}
+use Rattle.call_outcomes.specs.Causes.{lengthsWrong, contentsFor}
+use Rattle.call_outcomes.specs.Outcome.{storeOf, outcomeOf, Outcome, outcome}
+use Rattle.frame_replies.specs.Reply.{leaf, sheet, brief, lineOf, bytesOf}
+use Rattle.frame_replies.specs.DigitLaws.{length-leaf}
+use Rattle.frame_replies.specs.Wrote.{Wrote}
+use Rattle.frame_replies.specs.WroteLaws.{wrote-length, wrote-more, writing-start, writing-next, writing-done}
+use Rattle.frame_answers.specs.Step.{entryCount, leafReply, leafReplies, leavesOf, sheetReplies, printReplies, printLines}
+use Rattle.frame_print.specs.Printed.{PrintReady, LeavesWritten}
+use Rattle.frame_answers.specs.StepLaws.{one-line}
+use Rattle.call_outcomes.specs.AnswerLaws.{accepted}
+
+-- ---- the leaves
+
+-- A slice of the slots as the code takes it.
+pub leaf-wrote : (store : Store) (s first j count : ℕ) {output output′ : List ℕ} {at next : ℕ} → count ≡ getD (store .counts) (first + j) 0
+    → Wrote output at (lineOf (leaf j count (take (j * s + s - j * s) (drop (j * s) (store .slots))))) output′ next
+    → Wrote output at (lineOf (leafReply store s first j)) output′ next
+unfolding leafReply
+leaf-wrote store s first j count e w =
+    let all : j * s + s - j * s ≡ s = omega arith in
+    rw (all, e) at w
+
+leaf-most : (store : Store) (s first j : ℕ) → length (lineOf (leafReply store s first j)) ≤ 11 + 16 * s
+unfolding leafReply
+leaf-most store s first j =
+    let part = drop (j * s) (store .slots) in
+    omega (arith, length-leaf j (getD (store .counts) (first + j) 0) (take s part), length-take s part)
+
+module _ {store : Store} {s k : ℕ} {old : List ℕ} {at : ℕ} where
+  pub leaves-start : at + k * (11 + 16 * s) ≤ length old → LeavesWritten store s k old at 0 old at
+  leaves-start room =
+      let all : k - 0 ≡ k = omega arith in
+      record { most = omega arith; writing = rw all (writing-start (omega arith)); room = rw all room }
+
+  module _ {j : ℕ} {new : List ℕ} {next : ℕ} (w : LeavesWritten store s k old at j new next) where
+    pub leaves-room : j < k → next + (11 + 16 * s) ≤ length new
+    leaves-room l = omega (arith, w .room, mul-le-mul-right (11 + 16 * s) (one-more l))
+      where
+        one-more : j < k → 1 ≤ k - j
+        one-more l = omega arith
+
+    pub leaves-next : j < k → {new′ : List ℕ} {next′ : ℕ} → Wrote new next (lineOf (leafReply store s k j)) new′ next′
+        → LeavesWritten store s k old at (j + 1) new′ next′
+    unfolding leafReplies bytesOf
+    leaves-next l more =
+        let left : k - j ≡ suc (k - suc j) = omega arith in
+        let wide = 11 + 16 * s in
+        let shorter : (k - j) * wide ≡ (k - suc j) * wide + wide = rw left (omega arith) in
+        record {
+          most = omega arith;
+          writing = rw (add-one j) (writing-next (rw left at (w .writing)) more);
+          room = rw (add-one j) (omega (arith, w .room, shorter, more .end, leaf-most store s k j, wrote-length more));
+        }
+
+    pub leaves-done : k ≤ j → Wrote old at (bytesOf (leafReplies store s k 0 k)) new next
+    unfolding leafReplies bytesOf
+    leaves-done l =
+        let none : k - j ≡ 0 = omega arith in
+        writing-done (rw none at (w .writing))
+
+-- ---- the sheet
+
+-- The numbers of the leaves of a sheet, as the code finds them: the slots, the counts and the output have room for them.
+pub record LeafNumbers (store : Store) (s leaves : ℕ) : Type 0 where
+  pub slots-are : s ≡ leafSlots (getD (store .counts) 0 0)
+  pub leaves-are : leaves ≡ 2 ^ height (getD (store .counts) 0 0)
+  pub slots-fit : leaves * s ≤ length (store .slots)
+  pub counts-fit : 2 * leaves ≤ length (store .counts)
+  pub output-fits : leaves * (11 + 16 * s) ≤ 68992
+
+module _ (store : Store) (sheet : PrintReady store) where
+  pub height-fits : height (getD (store .counts) 0 0) < 64
+  height-fits = omega (arith, height-most (getD (store .counts) 0 0) 11 (omega arith) (omega (arith, sheet .size)))
+
+  pub leaf-numbers : (s h leaves : ℕ) → s ≡ leafSlots (getD (store .counts) 0 0) → h ≡ height (getD (store .counts) 0 0) → leaves ≡ 2 ^ h
+      → LeafNumbers store s leaves
+  unfolding slots
+  leaf-numbers s h leaves es eh el =
+      let m = getD (store .counts) 0 0 in
+      let two : leaves ≡ 2 ^ height m = rw (← eh) el in
+      let fits : leaves * s ≤ 4224 = rw (two, es) (omega (arith, slots-2047 m (sheet .size))) in
+      let few : 2 * leaves ≤ 256 = rw two (counts-2047 m (sheet .size)) in
+      record {
+        slots-are = es;
+        leaves-are = two;
+        slots-fit = omega (arith, sheet .slots, fits);
+        counts-fit = omega (arith, sheet .counts, few);
+        output-fits = omega (arith, fits, few);
+      }
+
+module _ (slots counts : List ℕ) {output middle : List ℕ} {at next : ℕ}
+    (first : Wrote output at (lineOf (sheet (getD counts 0 0) (getD counts 1 0))) middle next) where
+  pub sheet-empty : getD counts 0 0 ≡ 0 → Wrote output at (bytesOf (sheetReplies (storeOf slots counts))) middle next
+  unfolding sheetReplies leavesOf leafReplies entryCount
+  sheet-empty e = rw (ifEq-yes (getD counts 0 0) 0 _ _ e) (one-line _ first)
+
+  pub sheet-leaves : getD counts 0 0 ≢ 0 → {s leaves : ℕ} → LeafNumbers (storeOf slots counts) s leaves → {output′ : List ℕ} {end : ℕ}
+      → Wrote middle next (bytesOf (leafReplies (storeOf slots counts) s leaves 0 leaves)) output′ end
+      → Wrote output at (bytesOf (sheetReplies (storeOf slots counts))) output′ end
+  unfolding sheetReplies leavesOf bytesOf entryCount
+  sheet-leaves ne numbers more =
+      rw (ifEq-no (getD counts 0 0) 0 _ _ ne) (wrote-more first (rw (numbers .slots-are, numbers .leaves-are) at more))
+
+-- ---- the answer
+
+module _ {o : Outcome} {given : Answer} {slots counts : List ℕ} {back : Returned} (done : outcomeOf given slots counts [] ≡ o) (is : back ≡ returned given)
+    {output middle : List ℕ} {next : ℕ} (first : Wrote output 0 (lineOf (brief 133 (back .number) (getD counts 1 0))) middle next) where
+  pub print-refused : back .number ≢ 0 → Wrote output 0 (bytesOf (printLines o (storeOf slots counts))) middle next
+  unfolding printLines printReplies entryCount
+  print-refused ne = rw (← done, ← is, ifEq-no (back .number) 0 _ _ ne) (one-line _ first)
+
+  pub print-accepted : back .number ≡ 0 → {output′ : List ℕ} {end : ℕ} → Wrote middle next (bytesOf (sheetReplies (storeOf slots counts))) output′ end
+      → Wrote output 0 (bytesOf (printLines o (storeOf slots counts))) output′ end
+  unfolding printLines printReplies bytesOf entryCount
+  print-accepted e more = rw (← done, ← is, ifEq-yes (back .number) 0 _ _ e) (wrote-more first more)
+
+-- M, which a print says, is the size parameter.
+pub size-known : (cap : Capacity) (store : Store) (c : Contents) → decode cap store ≡ some c → c .shape .size ≡ getD (store .counts) 0 0
+unfolding shapeOf
+size-known cap store c h = ap (λ (x : Contents). x .shape .size) (decoded cap store c h .1)
+
+pub printable : (store : Store) (given : Answer) (slots counts : List ℕ) (back : Returned)
+    → outcomeOf given slots counts [] ≡ outcome clubs check [] store [] → back ≡ returned given → back .number ≡ 0 → PrintReady store
+unfolding contentsFor lengthsWrong
+printable store given slots counts back done is zero-is =
+    let e : returned (outcome clubs check [] store [] .answer) ≡ back = rw (← done, is) in
+    let a = accepted clubs check [] store [] (rw e zero-is) in
+    let lengths = and-both (eqb (length (store .slots)) 4224) (eqb (length (store .counts)) 256) (not-false _ (a .right)) in
+    let valid = decode-sound clubs store (a .before) (a .held) .0 in
+    record {
+      counts = eqb-true (length (store .counts)) 256 (lengths .1);
+      slots = eqb-true (length (store .slots)) 4224 (lengths .0);
+      size = rw (← size-known clubs store (a .before) (a .held)) (omega (arith, valid .shape .allowed .most, valid .room));
+    }

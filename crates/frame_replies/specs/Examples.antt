@@ -1,0 +1,62 @@
+-- Answer lines and frames as bytes: those of document 01's example, a refusal, an accepted read and an accepted place.
+use mathlib.Core.Path.{_≡_, refl}
+use mathlib.Core.List.{List, [], _∷_, _++_}
+use Prim.Native.Nat.{ℕ}
+use lib.ListN.{replicate}
+use Rattle.base.specs.Cases.{ifEq, ifLt}
+use Rattle.frame_lines.specs.declared.Frame.the-variants.{Insert, Tape}
+use Rattle.frame_lines.specs.Frame.{hexValue, field}
+use Rattle.frame_replies.specs.Reply.{hexDigit, digits, entryDigits, header, brief, entries, placed, sheet, leaf, encode, lineOf}
+use Rattle.frame_replies.specs.ReadBack.{entriesFrom, leafOf, replyFor, replyOf, wordDigits, operands, frameLine}
+
+-- 81000001
+inserted : encode (brief 129 0 1) ≡ 56 ∷ 49 ∷ 48 ∷ 48 ∷ 48 ∷ 48 ∷ 48 ∷ 49 ∷ []
+unfolding encode header digits hexDigit ifLt
+inserted = refl
+
+-- 85000002, with its LF
+printed : lineOf (brief 133 0 2) ≡ 56 ∷ 53 ∷ 48 ∷ 48 ∷ 48 ∷ 48 ∷ 48 ∷ 50 ∷ 10 ∷ []
+unfolding lineOf encode header digits hexDigit ifLt
+printed = refl
+
+-- 9000030002
+size-line : encode (sheet 3 2) ≡ 57 ∷ 48 ∷ 48 ∷ 48 ∷ 48 ∷ 51 ∷ 48 ∷ 48 ∷ 48 ∷ 50 ∷ []
+unfolding encode header digits hexDigit ifLt
+size-line = refl
+
+-- 9100000002000000000000000A000000000000000B0000000000000000
+leaf-bytes : List ℕ
+leaf-bytes = (57 ∷ 49 ∷ replicate 7 48) ++ ((50 ∷ replicate 15 48) ++ ((65 ∷ replicate 15 48) ++ (66 ∷ replicate 16 48)))
+
+leaf-line : encode (leaf 0 2 (10 ∷ 11 ∷ 0 ∷ [])) ≡ leaf-bytes
+unfolding leaf-bytes encode header entryDigits digits hexDigit ifLt
+leaf-line = refl
+
+leaf-read : replyOf leaf-bytes ≡ leaf 0 2 (10 ∷ 11 ∷ 0 ∷ [])
+unfolding leaf-bytes replyOf replyFor leafOf entriesFrom field hexValue ifEq ifLt
+leaf-read = refl
+
+-- FF080002: a line that is no frame
+no-frame : encode (brief 255 8 2) ≡ 70 ∷ 70 ∷ 48 ∷ 56 ∷ 48 ∷ 48 ∷ 48 ∷ 50 ∷ []
+unfolding encode header digits hexDigit ifLt
+no-frame = refl
+
+-- 83000002000000000000000B
+one-entry : encode (entries 2 (11 ∷ [])) ≡ (56 ∷ 51 ∷ replicate 5 48) ++ ((50 ∷ replicate 15 48) ++ (66 ∷ []))
+unfolding encode header entryDigits digits hexDigit ifLt
+one-entry = refl
+
+-- 8700000200020002: place 2, and 2 points
+place-two : encode (placed 2 2 2) ≡ 56 ∷ 55 ∷ 48 ∷ 48 ∷ 48 ∷ 48 ∷ 48 ∷ 50 ∷ 48 ∷ 48 ∷ 48 ∷ 50 ∷ 48 ∷ 48 ∷ 48 ∷ 50 ∷ []
+unfolding encode header digits hexDigit ifLt
+place-two = refl
+
+-- 010001000000000000000B
+insert-line : frameLine (Insert 1 11) [] ≡ (48 ∷ 49 ∷ 48 ∷ 48 ∷ 48 ∷ 49 ∷ replicate 15 48) ++ (66 ∷ [])
+unfolding frameLine operands digits hexDigit ifLt
+insert-line = refl
+
+-- 0400000001
+tape-line : frameLine (Tape 1) (1 ∷ []) ≡ 48 ∷ 52 ∷ 48 ∷ 48 ∷ 48 ∷ 48 ∷ 48 ∷ 48 ∷ 48 ∷ 49 ∷ []
+unfolding frameLine operands wordDigits digits hexDigit ifLt
+tape-line = refl

@@ -1,0 +1,31 @@
+-- The layout of written lists.
+use mathlib.Core.Path.{_≡_, refl}
+use mathlib.Core.List.{[], _∷_}
+use mathlib.Core.Option.{some, none}
+use Rattle.base.specs.Cases.{ifLe}
+use Rattle.base.specs.Lists.{equalLists}
+use Rattle.tree_sizes.specs.Sizes.{doublings, digits, height, leafSlots}
+use Rattle.tree_rules.specs.Tree.{leaf}
+use Rattle.tree_counts.specs.Counts.{writeTree, readTree, shapeCounts}
+use Rattle.store_layout.specs.Leaf.{slotOf, place, spread, nonzero}
+use Rattle.store_layout.specs.Layout.{Capacity, leafCounts, layLeaves, padTo, countOrder, laySlots, layCounts, layOut}
+use Rattle.store_layout.specs.Sheet.{listOf, shapeOf, balancedTest, shapeTest, sheetTest, decode}
+
+tiny : Capacity
+tiny = record { entries = 3; slots = 6; counts = 4 }
+
+-- the sheet that document 01 prints: entries A and B, M = 3
+printed : layOut tiny (0xA ∷ 0xB ∷ []) (record { size = 3; tree = leaf })
+    ≡ record { slots = 0xA ∷ 0xB ∷ 0 ∷ 0 ∷ 0 ∷ 0 ∷ []; counts = 3 ∷ 2 ∷ 0 ∷ 0 ∷ [] }
+unfolding tiny layOut laySlots layCounts padTo layLeaves leafCounts spread place slotOf leafSlots height digits doublings countOrder shapeCounts writeTree ifLe
+printed = refl
+
+read-back : decode tiny (record { slots = 0xA ∷ 0xB ∷ 0 ∷ 0 ∷ 0 ∷ 0 ∷ []; counts = 3 ∷ 2 ∷ 0 ∷ 0 ∷ [] })
+    ≡ some (record { list = 0xA ∷ 0xB ∷ []; shape = record { size = 3; tree = leaf } })
+unfolding tiny decode sheetTest shapeTest balancedTest shapeOf listOf nonzero readTree equalLists layOut laySlots layCounts padTo layLeaves leafCounts spread place slotOf leafSlots height digits doublings countOrder shapeCounts writeTree ifLe
+read-back = refl
+
+-- an old entry in a gap
+gap : decode tiny (record { slots = 0xA ∷ 0xB ∷ 0 ∷ 7 ∷ 0 ∷ 0 ∷ []; counts = 3 ∷ 2 ∷ 0 ∷ 0 ∷ [] }) ≡ none
+unfolding tiny decode sheetTest shapeTest balancedTest shapeOf listOf nonzero readTree equalLists layOut laySlots layCounts padTo layLeaves leafCounts spread place slotOf leafSlots height digits doublings countOrder shapeCounts writeTree ifLe
+gap = refl

@@ -1,0 +1,28 @@
+-- A leaf: its entries in its slots, and 0 in every slot without one. Definitions only.
+use mathlib.Core.List.{List, [], _∷_}
+use Prim.Native.Nat.{ℕ, zero, suc, _*_, _/_, _<_}
+use lib.ListN.{length, set, replicate}
+
+-- The leaf rule: of n entries in s slots, entry k, from 0, stands in slot ⌊k × s / n⌋.
+unfoldable pub slotOf : ℕ → ℕ → ℕ → ℕ
+slotOf s n k = k * s / n
+
+-- What the rest relies on of a leaf rule: the entries stand in order, in slots of the leaf.
+pub record Positions (n s : ℕ) (position : ℕ → ℕ) : Type 0 where
+  pub rises : (j k : ℕ) → j < k → k < n → position j < position k
+  pub inside : (k : ℕ) → k < n → position k < s
+
+-- The slots with the entries put in at the positions of k, k + 1, ..
+unfoldable pub place : (ℕ → ℕ) → ℕ → List ℕ → List ℕ → List ℕ
+place position k [] slots = slots
+place position k (x ∷ xs) slots = set (place position (suc k) xs slots) (position k) x
+
+-- s slots with the entries at the places of the leaf rule, and 0 in every other slot.
+unfoldable pub spread : ℕ → List ℕ → List ℕ
+spread s entries = place (slotOf s (length entries)) 0 entries (replicate s 0)
+
+-- The entries that stand in some slots, from left to right.
+unfoldable pub nonzero : List ℕ → List ℕ
+nonzero [] = []
+nonzero (zero ∷ slots) = nonzero slots
+nonzero (suc x ∷ slots) = suc x ∷ nonzero slots

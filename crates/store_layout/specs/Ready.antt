@@ -1,0 +1,32 @@
+-- What the code asks of its arguments, and what it answers of a list. Definitions only.
+use mathlib.Core.Path.{_≡_}
+use mathlib.Core.List.{List, _++_}
+use Prim.Native.Nat.{ℕ, _+_, _*_, _^_, _≤_, _<_}
+use lib.ListN.{length, take, drop}
+use Rattle.base.specs.Lists.{Every, total}
+use Rattle.store_layout.specs.Leaf.{nonzero}
+
+-- A leaf of s slots from `from` on, for the n entries of a list from `at` on.
+pub record LeafReady (slots : List ℕ) (from s : ℕ) (list : List ℕ) (at n : ℕ) : Type 0 where
+  pub slots-room : from + s ≤ length slots
+  pub list-room : at + n ≤ length list
+  pub fit : n ≤ s
+  pub small : s < 2 ^ 32
+
+-- Leaves of s slots from `from` on, with the numbers of entries that stand in the counts from `first` on.
+pub record LeavesReady (slots : List ℕ) (from s : ℕ) (counts : List ℕ) (first leaves : ℕ) (list : List ℕ) : Type 0 where
+  pub slots-room : from + s * leaves ≤ length slots
+  pub counts-room : first + leaves ≤ length counts
+  pub list-room : total (take leaves (drop first counts)) ≤ length list
+  pub fit : Every (λ n. n ≤ s) (take leaves (drop first counts))
+  pub small : s < 2 ^ 32
+
+-- Some slots, and a list with room for the entries in them.
+pub record GatherReady (slots : List ℕ) (from len : ℕ) (list : List ℕ) : Type 0 where
+  pub slots-room : from + len ≤ length slots
+  pub list-room : length (nonzero (take len (drop from slots))) ≤ length list
+
+-- The list now has these n entries at its front, and behind them what it had.
+pub record Gathered (entries old : List ℕ) (n : ℕ) (list : List ℕ) : Type 0 where
+  pub number : n ≡ length entries
+  pub front : list ≡ entries ++ drop n old

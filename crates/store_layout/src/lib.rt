@@ -1,0 +1,139 @@
+// The layout of a sheet in its store: leaves laid out and read back.
+ghost use mathlib.Core.Path.{_≡_};
+ghost use mathlib.Core.List.{_++_};
+ghost use Prim.Native.Nat.{_+_, _*_, _^_, _<_};
+ghost use lib.ListN.{length, getD, take, drop};
+ghost use Rattle.store_layout.specs.Leaf.{spread, nonzero};
+ghost use Rattle.store_layout.specs.Quotient.{divided, added, positionOf};
+ghost use Rattle.store_layout.specs.Layout.{layLeaves};
+ghost use Rattle.store_layout.specs.Ready.{LeafReady, LeavesReady, GatherReady, Gathered};
+
+// A quotient, rounded down, and its remainder.
+pub struct Quotient {
+    pub whole: usize,
+    pub rest: usize,
+}
+
+impl Quotient {
+    // The sum with another quotient by the same n.
+    pub fn plus(self, other: Quotient, n: usize) -> Quotient
+        requires wholes { ⌜ self .whole + other .whole < 2 ^ 62 ⌝ }
+        requires rests { ⌜ self .rest + other .rest < 2 ^ 62 ⌝ }
+        ensures { λ r. ⌜ r ≡ added n self other ⌝ }
+    {
+        let whole = self.whole + other.whole;
+        let rest = self.rest + other.rest;
+        if rest < n {
+            return Quotient {
+                whole: whole,
+                rest: rest,
+            };
+        }
+        Quotient {
+            whole: whole + 1,
+            rest: rest - n,
+        }
+    }
+}
+
+// x divided by n; by 0 it is 0, and everything remains.
+pub fn divide(x: usize, n: usize) -> Quotient
+    ensures { λ r. ⌜ r ≡ divided x n ⌝ }
+{
+    if n == 0 {
+        return Quotient { whole: 0, rest: x };
+    }
+    Quotient {
+        whole: x / n,
+        rest: x % n,
+    }
+}
+
+// The position of the first of n entries in a leaf of s slots, or s where there is none. Those of the others follow by adding s divided by n.
+pub fn first_position(s: usize, n: usize) -> Quotient
+    ensures { λ r. ⌜ r ≡ positionOf s n 0 ⌝ }
+{
+    if n == 0 {
+        return Quotient { whole: s, rest: 0 };
+    }
+    Quotient { whole: 0, rest: 0 }
+}
+
+// Writes n entries of the list, from `at` on, into s slots from `from` on: each slot once, from left to right, an entry or 0.
+fn spread_leaf(slots: &mut [u64], from: usize, s: usize, list: &[u64], at: usize, n: usize)
+    requires { ⌜ LeafReady (now slots) from s (now list) at n ⌝ }
+    ensures { λ r. ⌜ now (slots .exit)
+        ≡ take from (now (slots .entry))
+        ++ spread s (take n (drop at (now (list .entry))))
+        ++ drop (from + s) (now (slots .entry)) ⌝ }
+{
+    let step = divide(s, n);
+    let mut position = first_position(s, n);
+    let mut i: usize = 0;
+    let mut k: usize = 0;
+    while i < s {
+        if i == position.whole {
+            slots[from + i] = list[at + k];
+            k += 1;
+            position = position.plus(step, n);
+        } else {
+            slots[from + i] = 0;
+        }
+        i += 1;
+    }
+}
+
+// The count of the range k.
+pub fn count_at(counts: &[u32], k: usize) -> usize
+    requires inside { ⌜ k < length (now counts) ⌝ }
+    ensures { λ r. ⌜ r ≡ getD (now (counts .entry)) k 0 ⌝ }
+{
+    counts[k] as usize
+}
+
+// Lays leaves of s slots out one after the other, from the slot `from` on: their numbers of entries stand in the counts from `first` on,
+// and the entries in the list from its start on.
+pub fn lay_leaves(
+    slots: &mut [u64],
+    from: usize,
+    s: usize,
+    counts: &[u32],
+    first: usize,
+    leaves: usize,
+    list: &[u64],
+)
+    requires { ⌜ LeavesReady (now slots) from s (now counts) first leaves (now list) ⌝ }
+    ensures { λ r. ⌜ now (slots .exit)
+        ≡ take from (now (slots .entry))
+        ++ layLeaves s (take leaves (drop first (now (counts .entry)))) (now (list .entry))
+        ++ drop (from + s * leaves) (now (slots .entry)) ⌝ }
+{
+    let mut j: usize = 0;
+    let mut to = from;
+    let mut at: usize = 0;
+    while j < leaves {
+        let n = count_at(counts, first + j);
+        spread_leaf(slots, to, s, list, at, n);
+        to += s;
+        at += n;
+        j += 1;
+    }
+}
+
+// The entries of `len` slots from `from` on, put at the front of the list; how many they are.
+pub fn gather(slots: &[u64], from: usize, len: usize, list: &mut [u64]) -> usize
+    requires { ⌜ GatherReady (now slots) from len (now list) ⌝ }
+    ensures { λ r. ⌜ Gathered (nonzero (take len (drop from (now (slots .entry))))) (now (list .entry)) r (now (list .exit)) ⌝ }
+{
+    let mut n: usize = 0;
+    let mut i: usize = 0;
+    while i < len {
+        let held = slots[from + i];
+        i += 1;
+        if held != 0 {
+            list[n] = held;
+            n += 1;
+        }
+    }
+    n
+}

@@ -1,0 +1,51 @@
+-- `store_part::lay_entries` meets its contract.
+use mathlib.Core.Path.{_∙_}
+use native.Mathlib.Omega.{arith}
+use borrow.Author.Needs.{needs}
+use Rattle.store_part.specs.Plan.{partLength, partCounts}
+use Rattle.store_part.specs.LayPart.{layEntries}
+use Rattle.store_part.specs.LayPartLaws.{leaves-ready}
+use Rattle.store_part.proofs.lay_entries.Statement.{statement}
+use Rattle.store_part.proofs.lay_entries.Tie as tie
+
+region-leaves-requires : tie.Need-region-leaves-requires
+region-leaves-requires c κs = search needs
+
+mul-first : tie.Need-mul-first
+mul-first c = rw (c .region-leaves .ensures) (omega (arith, c .before .before .before .before .pre .counts-room))
+
+part-from-requires : tie.Need-part-from-requires
+part-from-requires c κs = search needs
+
+leaf-slots-requires : tie.Need-leaf-slots-requires
+leaf-slots-requires c κs = search needs
+
+lay-leaves-requires : tie.Need-lay-leaves-requires
+lay-leaves-requires c κs =
+    let st = c .before .before .before .before .before .before .before in
+    let a = st .args in
+    rw (c .before .before .part-from .ensures, c .leaf-slots .ensures, c .before .before .before .region-leaves .ensures)
+    (leaves-ready (a .size .m) (a .part) _ _ _ (st .pre))
+
+same-length : tie.Need-same-length
+same-length c = search needs
+
+returns : tie.Need-returns
+unfolding layEntries partLength partCounts
+returns c =
+    let d = c .before .before in
+    let r = d .before in
+    d .lay-leaves .ensures
+    ∙ rw (r .before .before .part-from .ensures, r .leaf-slots .ensures, r .before .before .before .region-leaves .ensures)
+
+pub lay-entries-spec : {M : Type 1} → statement M
+lay-entries-spec =
+    tie.close
+    (tie.spec
+    region-leaves-requires
+    mul-first
+    part-from-requires
+    leaf-slots-requires
+    lay-leaves-requires
+    same-length
+    returns)

@@ -1,0 +1,6 @@
+-- What single steps on slices come to: definitions first, then their laws.
+pub mod Changed
+pub mod Pasted
+pub mod ChangedLaws
+pub mod PastedLaws
+pub mod ReadLaws

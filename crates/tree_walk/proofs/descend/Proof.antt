@@ -1,0 +1,187 @@
+-- `tree_walk::descend` meets its contract. The loop's invariant: the run of the walk is that from the present range on.
+use mathlib.Core.Path.{refl}
+use Prim.Native.Nat.{suc, _-_, _*_}
+use native.Mathlib.Omega.{arith}
+use borrow.Author.Needs.{needs}
+use denote.Ref.{now}
+use lib.ListN.{getD}
+use Rattle.tree_walk.specs.Walk.{walkRun, Walking}
+use Rattle.tree_walk.specs.WalkLaws.{walking-start, above-walking, comparable, entries-most, node-bounds, balance-below, Seen, stop-leaf, stop-rebuild, stop-enter, stop-ended, pass, half-lower}
+use Rattle.tree_walk.proofs.descend.Statement.{statement}
+use Rattle.tree_walk.proofs.descend.Tie as tie
+
+abbrev Inv-loop : tie.InvT-loop
+Inv-loop n size counts₀ tape start range₀ at₀ counts range at =
+    Walking (range₀ .change) n (size .m) counts₀ tape (walkRun (range₀ .change) n (size .m) counts₀ tape start) counts (range .levels)
+    (range .depth) (range .k) (range .n) (range .change) at
+
+abbrev μ-loop : tie.MeasureT-loop
+μ-loop n size counts₀ tape start range₀ at₀ counts range at = range .levels
+
+-- above the leaves
+above : (c : tie.Else1 Inv-loop μ-loop) →
+    let lp = c .before .before in
+    let a = lp .before .before .before .before .args in
+    let h = lp .loop in
+    Walking (a .change) (a .n) (a .size .m) (now (a .counts)) (now (a .tape))
+    (walkRun (a .change) (a .n) (a .size .m) (now (a .counts)) (now (a .tape)) (a .start)) (h .counts) (suc (h .range .levels - 1))
+    (h .range .depth) (h .range .k) (h .range .n) (h .range .change) (h .at)
+above c = let h = c .before .before .loop in above-walking (h .range) (h .inv) (c .if1 .left)
+
+seen : (c : tie.After-visit Inv-loop μ-loop) →
+    let lp = c .before .before .before .before .before in
+    let a = lp .before .before .before .before .args in
+    let h = lp .loop in
+    Seen (a .size .m) (now (a .tape)) (h .counts) (h .range .depth) (h .range .k) (h .range .n) (h .range .change) (h .at)
+    (c .before .candidates .result) (getD (h .counts) (2 * h .range .k) 0) (c .visit .result)
+seen c = record { count-is = c .before .candidates .ensures; balance-is = refl; visit-is = c .visit .ensures }
+
+height-requires : tie.Need-height-requires Inv-loop μ-loop
+height-requires c κs = search needs
+
+loop-holds : tie.Need-loop-holds Inv-loop μ-loop
+loop-holds c =
+    let a = c .before .before .before .args in
+    rw (c .height .ensures)
+    (walking-start (a .change) (a .n) (a .size .m) (now (a .counts)) (now (a .tape)) (a .start) (c .before .before .before .pre))
+
+mul-b : tie.Need-mul-b Inv-loop μ-loop
+mul-b c = omega (arith, node-bounds (above c))
+
+mul-b-2 : tie.Need-mul-b-2 Inv-loop μ-loop
+mul-b-2 c = omega (arith, node-bounds (above c))
+
+slice-read-b : tie.Need-slice-read-b Inv-loop μ-loop
+slice-read-b c = omega (arith, node-bounds (above (c .before)))
+
+cast-b : tie.Need-cast-b Inv-loop μ-loop
+cast-b c = omega (arith, c .slice-known2 .given (2 * c .before .before .before .loop .range .k))
+
+candidates-requires : tie.Need-candidates-requires Inv-loop μ-loop
+candidates-requires c κs = let l = node-bounds (above (c .before)) in (omega (arith, l), (l .size, l .shallow))
+
+visit-requires : tie.Need-visit-requires Inv-loop μ-loop
+visit-requires c κs = rw (c .candidates .ensures) (comparable (above (c .before .before)))
+
+enum-known-next : tie.Need-enum-known-next Inv-loop μ-loop
+enum-known-next c = search needs
+
+enum-told : tie.Need-enum-told Inv-loop μ-loop
+enum-told c = search needs
+
+enum-known-into : tie.Need-enum-known-into Inv-loop μ-loop
+enum-known-into c = search needs
+
+enum-told-2 : tie.Need-enum-told-2 Inv-loop μ-loop
+enum-told-2 c = search needs
+
+after-requires : tie.Need-after-requires Inv-loop μ-loop
+after-requires c κs =
+    let h = c .before .before .before .before .before .before .before .before .loop in (h .inv .reach, entries-most (h .range) (h .inv))
+
+cast-counts : tie.Need-cast-counts Inv-loop μ-loop
+cast-counts c = search needs
+
+mul-counts : tie.Need-mul-counts Inv-loop μ-loop
+mul-counts c =
+    omega (arith, node-bounds (above (c .before .before .before .before .before .before .before)))
+
+slice-write-counts : tie.Need-slice-write-counts Inv-loop μ-loop
+slice-write-counts c =
+    omega (arith, node-bounds (above (c .before .before .before .before .before .before .before)))
+
+half-requires : tie.Need-half-requires Inv-loop μ-loop
+half-requires c κs =
+    let el = c .before .before .before .before .before .before .before in
+    let l = node-bounds (above el) in
+    record {
+      above = omega (arith, el .if1 .left);
+      shallow = omega (arith, l .shallow);
+      small = omega (arith, l .below);
+      inside = omega (arith, balance-below (above el));
+    }
+
+loop-less : tie.Need-loop-less Inv-loop μ-loop
+loop-less c =
+    let el = c .before .before .before .before .before .before .before .before in
+    half-lower (el .before .before .loop .range) (c .half .result) _ (el .if1 .left) (c .half .ensures)
+
+loop-again : tie.Need-loop-again Inv-loop μ-loop
+loop-again c =
+    let aa = c .before in
+    let nx = aa .before .before in
+    let vs = nx .before .before in
+    let el = vs .before .before .before in
+    let h = el .before .before .loop in
+    pass (h .range) (h .inv) (el .if1 .left) (seen vs) _ _ _ (nx .next .given .1) (aa .after .ensures) (c .half .ensures)
+
+same-length : tie.Need-same-length Inv-loop μ-loop
+same-length c = search needs
+
+returns : tie.Need-returns Inv-loop μ-loop
+returns c = let h = c .before .before .loop in stop-leaf (h .range) (h .inv) (c .if1 .taken)
+
+same-length-2 : tie.Need-same-length-2 Inv-loop μ-loop
+same-length-2 c = search needs
+
+returns-2 : tie.Need-returns-2 Inv-loop μ-loop
+returns-2 c =
+    let vs = c .before .before in
+    let el = vs .before .before .before in
+    let h = el .before .before .loop in
+    stop-rebuild (h .range) (h .inv) (el .if1 .left) (seen vs) (c .enum-told .given .1)
+
+same-length-3 : tie.Need-same-length-3 Inv-loop μ-loop
+same-length-3 c = search needs
+
+returns-3 : tie.Need-returns-3 Inv-loop μ-loop
+returns-3 c =
+    let nt = c .before in
+    let vs = nt .before .before in
+    let el = vs .before .before .before in
+    let h = el .before .before .loop in
+    stop-enter (h .range) (h .inv) (el .if1 .left) (seen vs) _ _ (nt .into .given .1)
+
+same-length-4 : tie.Need-same-length-4 Inv-loop μ-loop
+same-length-4 c = search needs
+
+returns-4 : tie.Need-returns-4 Inv-loop μ-loop
+returns-4 c =
+    let vs = c .before .before in
+    let el = vs .before .before .before in
+    let h = el .before .before .loop in
+    stop-ended (h .range) (h .inv) (el .if1 .left) (seen vs) (c .enum-told2 .given .1)
+
+pub descend-spec : {M : Type 1} → statement M
+descend-spec =
+    tie.close
+    (tie.spec
+    Inv-loop
+    μ-loop
+    height-requires
+    loop-holds
+    mul-b
+    mul-b-2
+    slice-read-b
+    cast-b
+    candidates-requires
+    visit-requires
+    enum-known-next
+    enum-told
+    enum-known-into
+    enum-told-2
+    after-requires
+    cast-counts
+    mul-counts
+    slice-write-counts
+    half-requires
+    loop-less
+    loop-again
+    same-length
+    returns
+    same-length-2
+    returns-2
+    same-length-3
+    returns-3
+    same-length-4
+    returns-4)
