@@ -43,6 +43,13 @@ module _ {A : Type 0} (P : A → Type 0) where
   every-getD (x ∷ xs) zero d p h = p .0
   every-getD (x ∷ xs) (suc i) d p h = every-getD xs i d (p .1) (le-of-suc-le-suc h)
 
+  -- At any index, where P holds of what stands for a member past the end.
+  pub every-at : (xs : List A) (i : ℕ) (d : A) → Every P xs → P d → P (getD xs i d)
+  unfolding Every
+  every-at [] i d p h = h
+  every-at (x ∷ xs) zero d p h = p .0
+  every-at (x ∷ xs) (suc i) d p h = every-at xs i d (p .1) h
+
   pub every-set : (xs : List A) (i : ℕ) (x : A) → Every P xs → P x → Every P (set xs i x)
   unfolding Every
   every-set [] i x p h = tt

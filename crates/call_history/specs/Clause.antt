@@ -1,4 +1,4 @@
--- Demand 3 for the store of the clubs: 1,024 entries, 4,224 slots, 256 counts.
+-- Demand 3 for the clubs' sheets.
 use mathlib.Core.Path.{_≡_}
 use mathlib.Core.Logic.{_↔_}
 use mathlib.Core.List.{List, [], _∷_}
@@ -9,9 +9,12 @@ use Rattle.draw_shares.specs.CourseLaws.{follows-unique}
 use Rattle.tree_rules.specs.Tree.{Shape, IsShape}
 use Rattle.tree_canonical.specs.ShapeShare.{shapeProduct}
 use Rattle.store_layout.specs.Layout.{Store, layOut}
-use Rattle.call_outcomes.specs.Call.{Call, clear, clubs}
-use Rattle.call_outcomes.specs.ClubsLaws.{clubs-roomy}
-use Rattle.call_history.specs.History.{history, RightLengths, listAtEnd, equalStores, SameTable, Sent, lastStore, NoneEnds, facesSent, callsOf}
+use Rattle.call_outcomes.specs.Kind.{clear}
+use Rattle.call_outcomes.specs.Plain.{RightLengths, equalStores, plainView, plain, Call}
+use Rattle.call_outcomes.specs.PlainLaws.{lengths-right}
+use Rattle.call_outcomes.specs.Clubs.{clubs}
+use Rattle.call_outcomes.specs.ClubsLaws.{clubs-lawful}
+use Rattle.call_history.specs.History.{history, listAtEnd, SameTable, Sent, lastStore, NoneEnds, facesSent, callsOf}
 use Rattle.call_history.specs.Words.{words-decide}
 use Rattle.call_history.specs.Independence.{history-independent}
 use Rattle.call_history.specs.Shares.{sheet-share}
@@ -19,23 +22,27 @@ use Rattle.call_history.specs.Shares.{sheet-share}
 -- For every two histories, on stores that held anything at all before: every store has the same share in both exactly when both end with
 -- the same list.
 pub clause : (calls calls′ : List Call) (store store′ : Store) → RightLengths clubs store → RightLengths clubs store′
-    → SameTable (history clubs calls store) (history clubs calls′ store′) ↔ (listAtEnd clubs calls ≡ listAtEnd clubs calls′)
-clause = history-independent clubs clubs-roomy
+    → SameTable (plainView clubs) (history (plain clubs) calls store) (history (plain clubs) calls′ store′)
+    ↔ (listAtEnd (plain clubs) calls ≡ listAtEnd (plain clubs) calls′)
+clause calls calls′ store store′ right right′ =
+    history-independent (plain clubs) clubs-lawful calls calls′ store store′ (lengths-right clubs store right) (lengths-right clubs store′ right′)
 
 -- clearing, as the first call of a history
-unfoldable pub clearing : Sent
+unfoldable pub clearing : Sent Call
 clearing = record { call = clear; tape = []; output = [] }
 
 -- For every history and whatever words the tapes of its calls hold: if no call returns 7, the calls leave exactly the store with which the
 -- course ends whose faces those words decide.
-pub words : (sent : List Sent) (store : Store) → NoneEnds clubs (clearing ∷ sent) store → (final : Store)
-    → Follows (history clubs (callsOf sent) store) (facesSent clubs (clearing ∷ sent) store) final ↔ (final ≡ lastStore clubs (clearing ∷ sent) store)
+pub words : (sent : List (Sent Call)) (store : Store) → NoneEnds (plain clubs) (clearing ∷ sent) store → (final : Store)
+    → Follows (history (plain clubs) (callsOf sent) store) (facesSent (plain clubs) (clearing ∷ sent) store) final
+    ↔ (final ≡ lastStore (plain clubs) (clearing ∷ sent) store)
 unfolding history callsOf clearing
 words sent store none final =
-    let course = words-decide clubs (clearing ∷ sent) store none in
+    let course = words-decide (plain clubs) (clearing ∷ sent) store none in
     (λ other. follows-unique _ _ final _ other course, λ e. rw e course)
 
 -- Each sheet of the list at the end has the share 1 / N times 1 / c for each range above the leaves.
-pub sheet-shares : (calls : List Call) (store : Store) → RightLengths clubs store → (s : Shape) → IsShape (length (listAtEnd clubs calls)) s
-    → share (equalStores (layOut clubs (listAtEnd clubs calls) s)) (history clubs calls store) ≐ unit (shapeProduct (length (listAtEnd clubs calls)) s)
-sheet-shares = sheet-share clubs clubs-roomy
+pub sheet-shares : (calls : List Call) (store : Store) → RightLengths clubs store → (s : Shape) → IsShape (length (listAtEnd (plain clubs) calls)) s
+    → share (equalStores (layOut clubs (listAtEnd (plain clubs) calls) s)) (history (plain clubs) calls store)
+    ≐ unit (shapeProduct (length (listAtEnd (plain clubs) calls)) s)
+sheet-shares calls store right = sheet-share (plain clubs) clubs-lawful calls store (lengths-right clubs store right)

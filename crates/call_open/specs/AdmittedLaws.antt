@@ -1,94 +1,95 @@
 -- What is left of a look at a store decides the call: refused by its cause, or run on the contents of the sheet.
-use mathlib.Core.Path.{_≡_, refl, _∙_, ap, subst}
-use mathlib.Core.Bool.{Bool, true, false}
+use mathlib.Core.Path.{_≡_, refl, sym, _∙_, ap}
 use mathlib.Core.List.{List}
 use mathlib.Core.Option.{Option, some, none}
 use Prim.Native.Nat.{ℕ, _≤_}
 use native.Mathlib.Omega.{arith}
 use lib.ListN.{length}
-use Rattle.draw_shares.specs.Tape.{runAt}
-use Rattle.store_layout.specs.Layout.{Capacity, Store}
-use Rattle.store_layout.specs.Sheet.{Contents, decode}
-use Rattle.store_layout.specs.SheetLaws.{decode-sound}
+use Rattle.store_layout.specs.declared.Capacity.{Capacity}
+use Rattle.store_layout.specs.Layout.{Store}
+use Rattle.store_layout.specs.Decode.{decode}
 use Rattle.call_outcomes.specs.declared.Cause.{Cause}
-use Rattle.call_outcomes.specs.declared.Cause.the-variants.{Lengths, NotASheet}
-use Rattle.call_outcomes.specs.Call.{Call}
-use Rattle.call_outcomes.specs.Causes.{lengthsWrong, contentsFor, argumentCause}
-use Rattle.call_outcomes.specs.Outcome.{effect, refused, finished, outcome}
-use Rattle.call_outcomes.specs.OutcomeLaws.{outcome-lengths, outcome-none, outcome-argument, outcome-runs}
+use Rattle.call_outcomes.specs.declared.Answer.the-variants.{Refused}
+use Rattle.call_outcomes.specs.Kind.{change, ask}
+use Rattle.call_outcomes.specs.Causes.{Decision, refuse, accept, storeDecision, lookedAt, argumentCause, byArguments, decision}
+use Rattle.call_outcomes.specs.Outcome.{refused, outcome}
+use Rattle.call_outcomes.specs.DecisionLaws.{outcome-refused}
+use Rattle.call_outcomes.specs.AcceptedLaws as accepted
+use Rattle.call_outcomes.specs.Plain.{plainView, PlainChange, changeCause, Question, questionCause, plain, Call, outcomeOf}
+use Rattle.call_open.specs.declared.Opened.{Opened}
 use Rattle.call_open.specs.declared.Opened.the-variants as opened
-use Rattle.call_open.specs.Opening.{openedBy, openedAs, admittedBy, admitted}
+use Rattle.call_open.specs.Opening.{openedAs, Opening, admittedBy, admitted, Admitted}
 
--- A sheet of n entries with the size parameter m, on which no cause of the arguments decides.
-pub record Admitted (cap : Capacity) (call : Call) (store : Store) (n m : ℕ) : Type 0 where
-  pub right : lengthsWrong cap store ≡ false
-  pub contents : Contents
-  pub decoded : decode cap store ≡ some contents
-  pub count : length (contents .list) ≡ n
-  pub size : contents .shape .size ≡ m
-  pub free : argumentCause cap call n ≡ none
+-- ---- the causes of the arguments
 
-module _ (cap : Capacity) (call : Call) (store : Store) where
-  -- ---- the call goes on
+opened-admitted : (causes : ℕ → Option Cause) (d : Decision)
+    → admitted causes (openedAs d) ≡ openedAs (byArguments (λ list. causes (length list)) d)
+unfolding admitted admittedBy openedAs byArguments
+opened-admitted causes (refuse cause) = refl
+opened-admitted causes (accept c) = go (causes (length (c .list)))
+  where
+    go : (o : Option Cause) → admittedBy o (length (c .list)) (c .shape .size) ≡ openedAs (elim o [ some cause ↦ refuse cause | none ↦ accept c ])
+    go (some cause) = refl
+    go none = refl
 
-  pub admitted-sheet : (n m : ℕ) → admitted cap call (openedAs cap store) ≡ opened.Sheet n m → Admitted cap call store n m
-  unfolding admitted admittedBy openedAs openedBy
-  admitted-sheet n m = by-lengths (lengthsWrong cap store) refl
+module _ (cap : Capacity) (store : Store) {answer after : Opened} {work : List ℕ} (w : Opening cap store answer work) where
+  pub change-opened : (c : PlainChange) → after ≡ admitted (changeCause (cap .entries) c) answer → after ≡ openedAs (decision (plain cap) (change c) store)
+  unfolding decision lookedAt argumentCause
+  change-opened c is = is ∙ ap (admitted (changeCause (cap .entries) c)) (w .found) ∙ opened-admitted (changeCause (cap .entries) c) (storeDecision (plainView cap) store)
+
+  pub question-opened : (q : Question) → after ≡ admitted (questionCause q) answer → after ≡ openedAs (decision (plain cap) (ask q) store)
+  unfolding decision lookedAt argumentCause
+  question-opened q is = is ∙ ap (admitted (questionCause q)) (w .found) ∙ opened-admitted (questionCause q) (storeDecision (plainView cap) store)
+
+-- What is left is what was found.
+pub found-sheet : (causes : ℕ → Option Cause) (o : Opened) {n m : ℕ} → admitted causes o ≡ opened.Sheet n m → o ≡ opened.Sheet n m
+unfolding admitted admittedBy
+found-sheet causes (opened.Refused cause) h = h
+found-sheet causes (opened.Sheet n′ m′) {n} {m} h = go (causes n′) h
+  where
+    go : (o : Option Cause) → admittedBy o n′ m′ ≡ opened.Sheet n m → opened.Sheet n′ m′ ≡ opened.Sheet n m
+    go (some cause) e = let z : _≡_ {A = ℕ} 0 1 = cc in absurd (omega arith)
+    go none e = e
+
+-- ---- the call goes on, or is refused
+
+module _ (cap : Capacity) (call : Call) (store : Store) {after : Opened} (is : after ≡ openedAs (decision (plain cap) call store)) where
+  pub call-admitted : {n m : ℕ} → after ≡ opened.Sheet n m → Admitted cap call store n m
+  unfolding openedAs
+  call-admitted {n} {m} e = go (decision (plain cap) call store) refl (sym is ∙ e)
     where
-      by-cause : lengthsWrong cap store ≡ false → (c : Contents) → decode cap store ≡ some c
-          → (o : Option Cause) → argumentCause cap call (length (c .list)) ≡ o
-          → admittedBy o (length (c .list)) (c .shape .size) ≡ opened.Sheet n m → Admitted cap call store n m
-      by-cause right c e (some cause) k h = let z : _≡_ {A = ℕ} 0 1 = cc in absurd (omega arith)
-      by-cause right c e none k h =
-          let count : length (c .list) ≡ n = cc in
-          record { right = right; contents = c; decoded = e; count = count; size = cc; free = subst (λ (N : ℕ). argumentCause cap call N ≡ none) count k }
+      go : (d : Decision) → decision (plain cap) call store ≡ d → openedAs d ≡ opened.Sheet n m → Admitted cap call store n m
+      go (refuse cause) found h = let z : _≡_ {A = ℕ} 0 1 = cc in absurd (omega arith)
+      go (accept c) found h = record { contents = c; decided = found; count = cc; size = cc }
 
-      by-contents : lengthsWrong cap store ≡ false → (o : Option Contents) → decode cap store ≡ o
-          → admitted cap call (openedBy o) ≡ opened.Sheet n m → Admitted cap call store n m
-      by-contents right none e h = let z : _≡_ {A = ℕ} 0 1 = cc in absurd (omega arith)
-      by-contents right (some c) e h = by-cause right c e (argumentCause cap call (length (c .list))) refl h
+  pub call-refused : (tape output : List ℕ) {cause : Cause} → after ≡ opened.Refused cause
+      → outcomeOf (Refused cause) (store .slots) (store .counts) output ≡ outcome (plain cap) call tape store output
+  unfolding openedAs refused
+  call-refused tape output {cause} e = go (decision (plain cap) call store) refl (sym is ∙ e)
+    where
+      go : (d : Decision) → decision (plain cap) call store ≡ d → openedAs d ≡ opened.Refused cause
+          → outcomeOf (Refused cause) (store .slots) (store .counts) output ≡ outcome (plain cap) call tape store output
+      go (refuse k) found h =
+          let same : k ≡ cause = cc in
+          sym (outcome-refused (plain cap) call store tape output cause (found ∙ ap refuse same))
+      go (accept c) found h = let z : _≡_ {A = ℕ} 0 1 = cc in absurd (omega arith)
 
-      by-lengths : (b : Bool) → lengthsWrong cap store ≡ b
-          → admitted cap call (elim b [ true ↦ opened.Refused Lengths | false ↦ openedBy (decode cap store) ]) ≡ opened.Sheet n m
-          → Admitted cap call store n m
-      by-lengths true e h = let z : _≡_ {A = ℕ} 0 1 = cc in absurd (omega arith)
-      by-lengths false e h = by-contents e (decode cap store) refl h
+-- ---- a call that goes on
 
-  -- ---- the call is refused
+module _ {cap : Capacity} {store : Store} {n m : ℕ} where
+  module _ {c : PlainChange} (w : Admitted cap (change c) store n m) where
+    pub change-decoded : decode cap store ≡ some (w .contents)
+    change-decoded = accepted.change-decoded cap store (w .contents) c (w .decided)
 
-  module _ (looks : contentsFor cap call store ≡ decode cap store) (tape output : List ℕ) where
-    pub admitted-refused : (cause : Cause) → admitted cap call (openedAs cap store) ≡ opened.Refused cause
-        → outcome cap call tape store output ≡ refused cause store output
-    unfolding admitted admittedBy openedAs openedBy
-    admitted-refused cause = by-lengths (lengthsWrong cap store) refl
-      where
-        -- the cause found is the one given
-        given : (k : Cause) → opened.Refused k ≡ opened.Refused cause → refused k store output ≡ refused cause store output
-        given k h = let same : k ≡ cause = cc in ap (λ (j : Cause). refused j store output) same
+    pub change-free : changeCause (cap .entries) c n ≡ none
+    change-free = rw (← w .count) (accepted.change-free cap store (w .contents) c (w .decided))
 
-        by-cause : lengthsWrong cap store ≡ false → (c : Contents) → decode cap store ≡ some c
-            → (o : Option Cause) → argumentCause cap call (length (c .list)) ≡ o
-            → admittedBy o (length (c .list)) (c .shape .size) ≡ opened.Refused cause → outcome cap call tape store output ≡ refused cause store output
-        by-cause right c e (some k) found h = outcome-argument cap call tape store output right c (looks ∙ e) k found ∙ given k h
-        by-cause right c e none found h = let z : _≡_ {A = ℕ} 0 1 = cc in absurd (omega arith)
+  module _ {q : Question} (w : Admitted cap (ask q) store n m) where
+    pub question-decoded : decode cap store ≡ some (w .contents)
+    question-decoded = accepted.question-decoded cap store (w .contents) q (w .decided)
 
-        by-contents : lengthsWrong cap store ≡ false → (o : Option Contents) → decode cap store ≡ o
-            → admitted cap call (openedBy o) ≡ opened.Refused cause → outcome cap call tape store output ≡ refused cause store output
-        by-contents right none e h = outcome-none cap call tape store output right (looks ∙ e) ∙ given NotASheet h
-        by-contents right (some c) e h = by-cause right c e (argumentCause cap call (length (c .list))) refl h
+    pub question-free : questionCause q n ≡ none
+    question-free = rw (← w .count) (accepted.question-free cap store (w .contents) q (w .decided))
 
-        by-lengths : (b : Bool) → lengthsWrong cap store ≡ b
-            → admitted cap call (elim b [ true ↦ opened.Refused Lengths | false ↦ openedBy (decode cap store) ]) ≡ opened.Refused cause
-            → outcome cap call tape store output ≡ refused cause store output
-        by-lengths true e h = outcome-lengths cap call tape store output e ∙ given Lengths h
-        by-lengths false e h = by-contents e (decode cap store) refl h
-
-    -- ---- the run of an admitted call
-
-    pub admitted-runs : {n m : ℕ} (w : Admitted cap call store n m)
-        → outcome cap call tape store output ≡ finished call (w .contents .list) store output (runAt (effect cap call (w .contents) store) tape 0)
-    admitted-runs w = outcome-runs cap call tape store output (w .right) (w .contents) (looks ∙ w .decoded) (rw (w .count) (w .free))
-
-  -- A sheet has no more entries than the store has room for.
-  pub entries-most : {n m : ℕ} → Admitted cap call store n m → n ≤ cap .entries
-  entries-most w = omega (arith, w .count, decode-sound cap store (w .contents) (w .decoded) .0 .room)
+    pub entries-most : n ≤ cap .entries
+    entries-most = rw (← w .count) (accepted.entries-most cap store (w .contents) q (w .decided))

@@ -1,4 +1,4 @@
--- A store looked at for a call, and the causes 1 to 6.
+-- A store looked at for a call, and the causes before 7.
 pub mod Opening
 pub mod OpeningLaws
 pub mod ArgumentLaws

@@ -1,93 +1,102 @@
--- What the code's look at a store comes to, for the store of the clubs.
-use mathlib.Core.Path.{_≡_, refl, sym, _∙_, ap}
-use mathlib.Core.Bool.{Bool, true, false, not, _&&_}
+-- What the code's look at a store comes to, for any capacity.
+use mathlib.Core.Path.{_≡_, refl, sym, _∙_}
+use mathlib.Core.Bool.{Bool, true, false, _&&_}
 use mathlib.Core.Logic.{_≢_}
 use mathlib.Core.List.{List}
-use Prim.Native.Nat.{ℕ, _^_, _<_}
+use mathlib.Core.Option.{some}
+use Prim.Native.Nat.{ℕ, _-_, _*_, _^_, _≤_, _<_}
 use native.Mathlib.Omega.{arith}
-use borrow.Author.Tests.{eq-eqb, ne-eqb}
+use borrow.Author.Tests.{ne-eqb}
 use lib.Dec.{eqb}
 use lib.ListN.{length, getD}
+use lib.Pow.{pow-pos}
 use Rattle.tree_sizes.specs.Sizes.{height}
-use Rattle.tree_counts.specs.RangeLaws.{balanced-perfect}
-use Rattle.tree_counts.specs.ShapeCountLaws.{shapeCounts-total}
-use Rattle.store_layout.specs.Layout.{Store, countOrder, layCounts, layOut}
-use Rattle.store_layout.specs.Sheet.{listOf, shapeOf, sheetTest}
-use Rattle.store_layout.specs.Room.{Roomy}
-use Rattle.store_layout.specs.SheetLaws.{test-sound, decode-true, decode-false}
+use Rattle.store_layout.specs.declared.Capacity.{Capacity}
+use Rattle.store_layout.specs.Layout.{Store}
+use Rattle.store_layout.specs.CountOrder.{countOrder, numberOrder}
+use Rattle.store_layout.specs.CountOrderLaws.{length-numberOrder, numberOrder-size, numberOrder-root, count-number}
+use Rattle.store_layout.specs.Decode.{listOf, numbered, shapeOf, sheetTest, decode}
+use Rattle.store_layout.specs.Room.{CapacityReady}
+use Rattle.store_layout.specs.RoomLaws.{counts-enough}
+use Rattle.store_layout.specs.SheetLaws.{decode-true, decode-false, size-refused, size-known, count-is}
 use Rattle.call_outcomes.specs.declared.Cause.the-variants.{Lengths, NotASheet}
+use Rattle.call_outcomes.specs.Causes.{byLengths, byFound, storeDecision}
+use Rattle.call_outcomes.specs.Plain.{rightLengths, foundBy, storeOf}
+use Rattle.call_outcomes.specs.PlainLaws.{lengths-right}
 use Rattle.call_open.specs.declared.Opened.the-variants as opened
-use Rattle.call_outcomes.specs.Call.{clubs}
-use Rattle.call_outcomes.specs.Causes.{lengthsWrong}
-use Rattle.call_outcomes.specs.Outcome.{storeOf}
-use Rattle.call_outcomes.specs.ClubsLaws.{clubs-roomy}
-use Rattle.call_open.specs.Opening.{openedBy, openedAs, Opening}
+use Rattle.call_open.specs.Opening.{openedAs, Opening}
 
-module _ (slots counts : List ℕ) where
+module _ (cap : Capacity) (slots counts : List ℕ) where
   abbrev store : Store
   store = storeOf slots counts
 
-  -- ---- lengths
+  -- ---- wrong lengths
 
-  pub slots-wrong : length slots ≢ 4224 → lengthsWrong clubs store ≡ true
-  unfolding lengthsWrong
-  slots-wrong h = rw (ne-eqb (length slots) 4224 h)
+  pub slots-wrong : length slots ≢ cap .slots → rightLengths cap store ≡ false
+  unfolding rightLengths
+  slots-wrong h = rw (ne-eqb (length slots) (cap .slots) h)
 
-  pub counts-wrong : length counts ≢ 256 → lengthsWrong clubs store ≡ true
-  unfolding lengthsWrong
-  counts-wrong h = rw (ne-eqb (length counts) 256 h) (go (eqb (length slots) 4224))
+  pub counts-wrong : length counts ≢ cap .counts → rightLengths cap store ≡ false
+  unfolding rightLengths
+  counts-wrong h = rw (ne-eqb (length counts) (cap .counts) h) (go (eqb (length slots) (cap .slots)))
     where
-      go : (b : Bool) → not (b && false) ≡ true
+      go : (b : Bool) → (b && false) ≡ false
       go true = refl
       go false = refl
 
-  pub lengths-right : length slots ≡ 4224 → length counts ≡ 256 → lengthsWrong clubs store ≡ false
-  unfolding lengthsWrong
-  lengths-right h k = rw (eq-eqb (length slots) 4224 h, eq-eqb (length counts) 256 k)
+  pub open-wrong : rightLengths cap store ≡ false → (work : List ℕ) → Opening cap store (opened.Refused Lengths) work
+  unfolding storeDecision byLengths openedAs
+  open-wrong h work = record { found = rw h; copied = λ e. let z : _≡_ {A = ℕ} 0 1 = cc in absurd (omega arith) }
 
-  -- ---- looked at
+  module _ (slots-are : length slots ≡ cap .slots) (counts-are : length counts ≡ cap .counts) where
+    right : rightLengths cap store ≡ true
+    right = lengths-right cap store record { slots = slots-are; counts = counts-are }
 
-  pub open-wrong : lengthsWrong clubs store ≡ true → (work : List ℕ) → Opening clubs store (opened.Refused Lengths) work
-  unfolding openedAs
-  open-wrong h work = record {
-    found = rw (h, openedAs);
-    copied = λ e. let z : _≡_ {A = ℕ} 0 1 = cc in absurd (omega arith);
-  }
+    -- ---- no sheet
 
-  -- the code's numbers: both lengths are right, and the work array has the counts
-  module _ (work : List ℕ) (slots-are : length slots ≡ 4224) (counts-are : length counts ≡ 256) (copied : work ≡ counts) where
-    pub sheet-ready : (1024 < 2 ^ 30) × Roomy (record { entries = 1024; slots = length slots; counts = length work })
-    sheet-ready = rw (copied, slots-are, counts-are) (omega arith, clubs-roomy)
+    open-none : sheetTest cap store ≡ false → (work : List ℕ) → Opening cap store (opened.Refused NotASheet) work
+    unfolding storeDecision byLengths byFound foundBy openedAs
+    open-none h work = record {
+      found = rw (right, decode-false cap store h);
+      copied = λ e. let z : _≡_ {A = ℕ} 0 1 = cc in absurd (omega arith);
+    }
 
-    -- the test that the code makes
-    module _ (test : Bool)
-        (is : test ≡ sheetTest (record { entries = 1024; slots = length slots; counts = length work }) (record { slots = slots; counts = work })) where
-      tested : sheetTest clubs store ≡ test
-      tested = sym (is ∙ rw (copied, slots-are, counts-are))
+    -- its size parameter is one that no sheet can have
+    pub open-large : {most : ℕ} → most ≡ 2 * cap .entries - 1 → most < getD counts 0 0 → (work : List ℕ) → Opening cap store (opened.Refused NotASheet) work
+    open-large is h work = open-none (size-refused cap store (rw is at h)) work
 
-      right : lengthsWrong clubs store ≡ false
-      right = lengths-right slots-are counts-are
+    module _ (ready : CapacityReady cap) where
+      pub two-counts : 1 < length counts
+      two-counts = omega (arith, counts-are, counts-enough cap (ready .roomy) 0 (omega arith), pow-pos (height 0))
 
-      pub open-none : test ≡ false → Opening clubs store (opened.Refused NotASheet) work
-      unfolding openedAs openedBy
-      open-none h = record { found = rw (right, openedAs, decode-false clubs store (tested ∙ h)); copied = λ e. copied }
+      module _ {most : ℕ} (is : most ≡ 2 * cap .entries - 1) (within : getD counts 0 0 ≤ most) where
+        pub read-room : 2 * 2 ^ height (getD counts 0 0) ≤ length counts
+        read-room = rw counts-are (counts-enough cap (ready .roomy) (getD counts 0 0) (rw is at within))
 
-      -- a sheet has its number of entries at count 1
-      count-one : test ≡ true → length (listOf store) ≡ getD counts 1 0
-      unfolding layOut layCounts countOrder
-      count-one h =
-          let w = test-sound clubs store (tested ∙ h) in
-          let N = length (listOf store) in
-          let s = shapeOf store in
-          sym
-          (ap (λ (t : Store). getD (t .counts) 1 0) (w .1)
-          ∙ shapeCounts-total (height (s .size)) 256 N s
-          (balanced-perfect (s .size) (height (s .size)) 0 N (s .tree) (w .0 .shape .balanced))
-          (clubs-roomy .counts-fit N (s .size) (w .0 .room) (w .0 .shape .allowed)))
+        -- ---- the counts are in the work array
 
-      pub open-sheet : test ≡ true → Opening clubs store (opened.Sheet (getD work 1 0) (getD work 0 0)) work
-      unfolding openedAs openedBy shapeOf
-      open-sheet h = record {
-        found = rw (right, openedAs, decode-true clubs store (tested ∙ h), count-one h, copied);
-        copied = λ e. copied;
-      }
+        module _ {work : List ℕ} (copied : work ≡ numberOrder (height (getD counts 0 0)) counts) where
+          pub work-length : length work ≡ cap .counts
+          work-length = rw copied (length-numberOrder (height (getD counts 0 0)) counts) ∙ counts-are
+
+          work-size : getD work 0 0 ≡ getD counts 0 0
+          work-size = rw copied (numberOrder-size (height (getD counts 0 0)) counts)
+
+          back : countOrder (height (getD work 0 0)) work ≡ counts
+          back = rw (work-size, copied) (count-number (height (getD counts 0 0)) counts read-room)
+
+          -- the test that the code makes
+          module _ {test : Bool} (test-is : test ≡ sheetTest cap (record { slots = slots; counts = countOrder (height (getD work 0 0)) work })) where
+            tested : sheetTest cap store ≡ test
+            tested = sym (test-is ∙ rw back)
+
+            pub open-other : test ≡ false → Opening cap store (opened.Refused NotASheet) work
+            open-other h = open-none (tested ∙ h) work
+
+            pub open-sheet : test ≡ true → Opening cap store (opened.Sheet (getD work 1 0) (getD counts 0 0)) work
+            unfolding storeDecision byLengths byFound foundBy openedAs numbered
+            open-sheet h =
+                let found : decode cap store ≡ some (record { list = listOf store; shape = shapeOf store }) = decode-true cap store (tested ∙ h) in
+                let entries : getD work 1 0 ≡ length (listOf store)
+                = rw copied (numberOrder-root (height (getD counts 0 0)) counts) ∙ count-is cap (ready .roomy) store _ found in
+                record { found = rw (right, found, entries, size-known cap store _ found); copied = λ e. copied }

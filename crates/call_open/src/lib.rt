@@ -1,10 +1,11 @@
-// A store looked at for a call: the causes 1 to 6, in their order.
+// A store looked at for a call: the causes before 7, in their order.
 ghost use mathlib.Core.Path.{_≡_};
 ghost use lib.ListN.{length};
-ghost use Rattle.call_outcomes.specs.Call as call;
-ghost use Rattle.call_outcomes.specs.Outcome.{storeOf};
+ghost use Rattle.store_layout.specs.Room.{CapacityReady};
+ghost use Rattle.call_outcomes.specs.Plain.{insertAt, plainChange, changeCause, readRanks, placeOf, questionCause, storeOf};
 ghost use Rattle.call_open.specs.Opening.{Opening, admitted};
 use call_outcomes::Cause;
+use store_layout::Capacity;
 use tree_rules::Change;
 
 // What a store is found to hold: a sheet of n entries with the size parameter m; or why the call is refused.
@@ -13,29 +14,34 @@ pub enum Opened {
     Refused(Cause),
 }
 
-// Looks at a store: the lengths are right and it is a sheet, or cause 1 or 2 decides. The counts are copied to the work array.
-pub fn examine(slots: &[u64], counts: &[u16], work: &mut [u32]) -> Opened
-    requires room { ⌜ length (now work) ≡ 256 ⌝ }
-    ensures { λ r. ⌜ Opening call.clubs (storeOf (now (slots .entry)) (now (counts .entry))) r (now (work .exit)) ⌝ }
+// Looks at a store: the lengths are right and it is a sheet, or cause 1 or 2 decides. The counts of a sheet are copied to the work array, by
+// range number. A size parameter that no sheet of the capacity has is refused before the counts are read in its order.
+pub fn examine(cap: Capacity, slots: &[u64], counts: &[u16], work: &mut [u32]) -> Opened
+    requires capacity { ⌜ CapacityReady cap ⌝ }
+    requires room { ⌜ length (now work) ≡ cap .counts ⌝ }
+    ensures { λ r. ⌜ Opening cap (storeOf (now (slots .entry)) (now (counts .entry))) r (now (work .exit)) ⌝ }
 {
-    if slots.len() != 4224 {
+    if slots.len() != cap.slots {
         return Opened::Refused(Cause::Lengths);
     }
-    if counts.len() != 256 {
+    if counts.len() != cap.counts {
         return Opened::Refused(Cause::Lengths);
     }
-    store_slices::widen(counts, work);
-    if !store_test::is_sheet(1024, slots, work) {
+    let m = counts[0] as usize;
+    if store_test::greatest_size(cap.entries) < m {
+        return Opened::Refused(Cause::NotASheet);
+    }
+    store_counts::read_counts(counts, work);
+    if !store_test::is_sheet(cap, slots, work) {
         return Opened::Refused(Cause::NotASheet);
     }
     let n = work[1] as usize;
-    let m = work[0] as usize;
     Opened::Sheet { n: n, m: m }
 }
 
-// Causes 3 to 5 of an insert.
-fn admit_insert(opened: Opened, rank: usize, entry: u64) -> Opened
-    ensures { λ r. ⌜ r ≡ admitted call.clubs (call.insert rank entry) opened ⌝ }
+// Causes 3 to 5 of an insert, where there is room for so many entries.
+fn admit_insert(opened: Opened, entries: usize, rank: usize, entry: u64) -> Opened
+    ensures { λ r. ⌜ r ≡ admitted (changeCause entries (insertAt rank entry)) opened ⌝ }
 {
     match opened {
         Opened::Sheet { n, m } => {
@@ -45,7 +51,7 @@ fn admit_insert(opened: Opened, rank: usize, entry: u64) -> Opened
             if n < rank {
                 return Opened::Refused(Cause::Rank);
             }
-            if 1024 <= n {
+            if entries <= n {
                 return Opened::Refused(Cause::Full);
             }
             Opened::Sheet { n: n, m: m }
@@ -56,7 +62,7 @@ fn admit_insert(opened: Opened, rank: usize, entry: u64) -> Opened
 
 // Cause 4 of a place, and of a delete: the entry of the rank is there.
 pub fn admit_rank(opened: Opened, rank: usize) -> Opened
-    ensures { λ r. ⌜ r ≡ admitted call.clubs (call.place rank) opened ⌝ }
+    ensures { λ r. ⌜ r ≡ admitted (questionCause (placeOf rank)) opened ⌝ }
 {
     match opened {
         Opened::Sheet { n, m } => {
@@ -69,19 +75,19 @@ pub fn admit_rank(opened: Opened, rank: usize) -> Opened
     }
 }
 
-// Causes 3 to 5 of the call that makes the change.
-pub fn admit_change(opened: Opened, change: Change, entry: u64) -> Opened
-    ensures { λ r. ⌜ r ≡ admitted call.clubs (call.changing change entry) opened ⌝ }
+// Causes 3 to 5 of the call that makes the change, where there is room for so many entries.
+pub fn admit_change(opened: Opened, entries: usize, change: Change, entry: u64) -> Opened
+    ensures { λ r. ⌜ r ≡ admitted (changeCause entries (plainChange change entry)) opened ⌝ }
 {
     match change {
-        Change::Insert(rank) => admit_insert(opened, rank, entry),
+        Change::Insert(rank) => admit_insert(opened, entries, rank, entry),
         Change::Delete(rank) => admit_rank(opened, rank),
     }
 }
 
 // Causes 4 and 6 of a read, with room for so many entries in the output.
 pub fn admit_read(opened: Opened, first: usize, last: usize, room: usize) -> Opened
-    ensures { λ r. ⌜ r ≡ admitted call.clubs (call.read first last room) opened ⌝ }
+    ensures { λ r. ⌜ r ≡ admitted (questionCause (readRanks first last room)) opened ⌝ }
 {
     match opened {
         Opened::Sheet { n, m } => {

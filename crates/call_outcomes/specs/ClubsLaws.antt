@@ -1,11 +1,21 @@
--- The store of the clubs has room for every sheet of 1,024 entries.
+-- The clubs' store has room for every sheet of its entries.
 use native.Mathlib.Omega.{arith}
-use Rattle.tree_sizes.specs.Capacity.{slots-2047, counts-2047}
+use Rattle.base.specs.Cases.{ifLe}
+use Rattle.tree_sizes.specs.Sizes.{doublings, digits, height, leafSlots, slots}
+use Rattle.tree_sizes.specs.Capacity.{greatest, slots-most, counts-most}
 use Rattle.store_layout.specs.Room.{Roomy}
-use Rattle.call_outcomes.specs.Call.{clubs}
+use Rattle.call_outcomes.specs.Kind.{Lawful}
+use Rattle.call_outcomes.specs.Plain.{plain}
+use Rattle.call_outcomes.specs.PlainLaws.{plain-lawful}
+use Rattle.call_outcomes.specs.Clubs.{clubs}
 
+-- A size parameter of its sheets is below 2 ^ 11.
 pub clubs-roomy : Roomy clubs
+unfolding greatest slots leafSlots height digits doublings ifLe
 clubs-roomy = record {
-  slots-fit = λ N M h a. slots-2047 M (omega (arith, a .most));
-  counts-fit = λ N M h a. counts-2047 M (omega (arith, a .most));
+  slots-fit = λ N M h a. slots-most 11 M (omega arith) (omega (arith, a .most));
+  counts-fit = λ N M h a. counts-most 11 M (omega arith) (omega (arith, a .most));
 }
+
+pub clubs-lawful : Lawful (plain clubs)
+clubs-lawful = plain-lawful clubs clubs-roomy

@@ -9,15 +9,19 @@ use Rattle.draw_shares.specs.Tape.{runAt, afterDraw}
 use Rattle.tree_sizes.specs.Sizes.{doublings, digits, height, leafSlots}
 use Rattle.tree_rules.specs.Compare.{countAfter}
 use Rattle.tree_rules.specs.Rules.{rebuild, walk, grow, insertSize, sizeStep, fresh, reshape, update}
-use Rattle.tree_counts.specs.Counts.{writeTree, readTree, shapeCounts}
-use Rattle.store_layout.specs.Leaf.{slotOf, place, spread, nonzero}
-use Rattle.store_layout.specs.Layout.{Capacity, Store, leafCounts, layLeaves, padTo, countOrder, laySlots, layCounts, layOut}
-use Rattle.store_layout.specs.Sheet.{listOf, shapeOf, balancedTest, shapeTest, sheetTest, decode}
+use Rattle.tree_rules.specs.ChangeList.{changeList}
+use Rattle.tree_counts.specs.Counts.{writeTree, readTree, shapeCounts, shapeIn}
+use Rattle.store_layout.specs.Leaf.{slotOf, putEntries, spread, nonzero}
+use Rattle.store_layout.specs.declared.Capacity.{Capacity}
+use Rattle.store_layout.specs.Layout.{Store, leafCounts, layLeaves, padTo, laySlots, layCounts, layOut}
+use Rattle.store_layout.specs.CountOrder.{countPlace, rangeAt, pick, reorder, countOrder, numberOrder}
+use Rattle.store_layout.specs.Decode.{numbered, listOf, shapeOf, balancedTest, shapeTest, sheetTest, decode}
 use Rattle.call_outcomes.specs.declared.Cause.the-variants.{TapeEnded}
 use Rattle.call_outcomes.specs.declared.Answer.the-variants.{Changed, Refused}
-use Rattle.call_outcomes.specs.Call.{insert, listAfter}
-use Rattle.call_outcomes.specs.Causes.{firstOf, lengthsWrong, contentsFor, argumentCause, byArguments, byContents, decision}
-use Rattle.call_outcomes.specs.Outcome.{changed, effect, answerOf, entriesOf, refused, finished, outcomeBy, outcome}
+use Rattle.call_outcomes.specs.Kind.{applied}
+use Rattle.call_outcomes.specs.Causes.{firstOf, byLengths, byFound, storeDecision, lookedAt, argumentCause, byArguments, decision}
+use Rattle.call_outcomes.specs.Outcome.{edited, effect, answerOf, entriesOf, refused, finished, outcomeBy, outcome}
+use Rattle.call_outcomes.specs.Plain.{rightLengths, foundBy, changeCause, editOf, plain, insert}
 
 tiny : Capacity
 tiny = record { entries = 3; slots = 6; counts = 4 }
@@ -26,9 +30,9 @@ one : Store
 one = record { slots = 0xA ∷ 0 ∷ 0 ∷ 0 ∷ 0 ∷ 0 ∷ []; counts = 1 ∷ 1 ∷ 0 ∷ 0 ∷ [] }
 
 -- the second insert of document 01's printed case, and the same with a tape that ends
-written : map (λ tape. outcome tiny (insert 1 0xB) tape one []) ((1 ∷ []) ∷ [] ∷ [])
+written : map (λ tape. outcome (plain tiny) (insert 1 0xB) tape one []) ((1 ∷ []) ∷ [] ∷ [])
     ≡ record { answer = Changed 2 1; store = record { slots = 0xA ∷ 0xB ∷ 0 ∷ 0 ∷ 0 ∷ 0 ∷ []; counts = 3 ∷ 2 ∷ 0 ∷ 0 ∷ [] }; output = [] }
     ∷ record { answer = Refused TapeEnded; store = one; output = [] }
     ∷ []
-unfolding tiny one outcome outcomeBy finished refused answerOf entriesOf effect changed decision byContents byArguments contentsFor argumentCause lengthsWrong firstOf listAfter update reshape fresh sizeStep insertSize grow rebuild walk countAfter runAt afterDraw drawAt drawFrom scan ifEq ifLt ifLe _>>=_ decode sheetTest shapeTest balancedTest shapeOf listOf nonzero readTree equalLists layOut laySlots layCounts padTo layLeaves leafCounts spread place slotOf leafSlots height digits doublings countOrder shapeCounts writeTree
+unfolding tiny one outcome outcomeBy finished refused answerOf entriesOf effect edited applied decision lookedAt storeDecision byLengths byFound byArguments argumentCause rightLengths foundBy changeCause editOf firstOf changeList update reshape fresh sizeStep insertSize grow rebuild walk countAfter runAt afterDraw drawAt drawFrom scan ifEq ifLt ifLe _>>=_ decode sheetTest shapeTest balancedTest shapeOf shapeIn numbered numberOrder countPlace listOf nonzero readTree equalLists layOut laySlots layCounts padTo layLeaves leafCounts spread putEntries slotOf leafSlots height digits doublings countOrder rangeAt reorder pick shapeCounts writeTree
 written = refl

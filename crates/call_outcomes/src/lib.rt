@@ -1,6 +1,6 @@
 // The answers of the calls: what is returned, with the number of the cause where a call is refused.
 ghost use mathlib.Core.Path.{_≡_};
-ghost use Rattle.call_outcomes.specs.Call as call;
+ghost use Rattle.call_outcomes.specs.Returns as returns;
 
 // Why a call or a line is refused, in the order in which the causes decide.
 pub enum Cause {
@@ -28,7 +28,7 @@ pub enum Answer {
 impl Cause {
     // The number of the cause.
     pub fn number(self) -> usize
-        ensures { λ r. ⌜ r ≡ call.causeNumber self ⌝ }
+        ensures { λ r. ⌜ r ≡ returns.causeNumber self ⌝ }
     {
         match self {
             Cause::Lengths => 1,
@@ -54,7 +54,7 @@ pub struct Returned {
 impl Answer {
     // The number and the values that the answer returns.
     pub fn returned(self) -> Returned
-        ensures { λ r. ⌜ r ≡ call.returned self ⌝ }
+        ensures { λ r. ⌜ r ≡ returns.returned self ⌝ }
     {
         match self {
             Answer::Cleared => Returned {

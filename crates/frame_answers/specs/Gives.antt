@@ -18,6 +18,6 @@ pub record Gives (a : Answered) (output : List ℕ) (bytes waiting : ℕ) (store
   pub wrote : Wrote output 0 (bytesOf (a .replies)) output′ bytes
 
 -- The same of a clear, which keeps the tape.
-pub record ClearGives (o : Outcome) (output : List ℕ) (bytes : ℕ) (store : Store) (output′ : List ℕ) : Type 0 where
+pub record ClearGives (o : Outcome Store) (output : List ℕ) (bytes : ℕ) (store : Store) (output′ : List ℕ) : Type 0 where
   pub store-is : store ≡ o .store
   pub wrote : Wrote output 0 (lineOf (clearLine o)) output′ bytes

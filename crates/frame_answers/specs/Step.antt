@@ -5,13 +5,19 @@ use lib.ListN.{length, getD, take, drop, replicate}
 use Rattle.base.specs.Cases.{ifEq, ifLt}
 use Rattle.tree_sizes.specs.Sizes.{height, leafSlots}
 use Rattle.store_layout.specs.Layout.{Store}
+use Rattle.store_layout.specs.Decode.{numbered}
+use Rattle.call_outcomes.specs.declared.Cause.{Cause}
+use Rattle.call_outcomes.specs.declared.Cause.the-variants as cause
 use Rattle.call_outcomes.specs.declared.Returned.{Returned}
-use Rattle.call_outcomes.specs.Call.{clear, insert, delete, read, place, check, returned, clubs}
+use Rattle.call_outcomes.specs.Returns.{causeNumber, returned}
+use Rattle.call_outcomes.specs.Kind.{clear}
 use Rattle.call_outcomes.specs.Outcome.{Outcome, outcome}
+use Rattle.call_outcomes.specs.Plain.{plain, insert, delete, read, place, check}
+use Rattle.call_outcomes.specs.Clubs.{clubs}
 use Rattle.frame_lines.specs.declared.Frame.{Frame}
 use Rattle.frame_lines.specs.declared.Frame.the-variants.{Insert, Delete, Read, Tape, Print, Clear, Place, NoFrame}
 use Rattle.frame_lines.specs.Frame.{frameOf}
-use Rattle.frame_tape.specs.Tape.{readOff, lineWords}
+use Rattle.frame_tape.specs.Tape.{mostWaiting, readOff, lineWords}
 use Rattle.frame_replies.specs.Reply.{Reply, brief, entries, placed, sheet, leaf, bytesOf}
 
 -- What the program keeps between two lines: the store, and the tape, of whose words the first `waiting` wait, the oldest first.
@@ -33,6 +39,10 @@ entryCount store = getD (store .counts) 1 0
 unfoldable pub keeping : Kept → Reply → Answered
 keeping k reply = record { replies = reply ∷ []; kept = k }
 
+-- A line that is refused by a cause of the program's own.
+unfoldable pub refusal : ℕ → Cause → Store → Reply
+refusal kind c store = brief kind (causeNumber c) (entryCount store)
+
 -- ---- insert and delete
 
 -- The answer to a call that reads words; a refused one has read none.
@@ -42,7 +52,7 @@ changedBy kind k back store = record {
   kept = record { store = store; tape = readOff (back .second) (k .tape); waiting = k .waiting - back .second };
 }
 
-unfoldable pub changed : ℕ → Kept → Outcome → Answered
+unfoldable pub changed : ℕ → Kept → Outcome Store → Answered
 changed kind k o = changedBy kind k (returned (o .answer)) (o .store)
 
 -- ---- read, place and clear
@@ -50,19 +60,19 @@ changed kind k o = changedBy kind k (returned (o .answer)) (o .store)
 unfoldable pub readReply : Returned → ℕ → List ℕ → Reply
 readReply back n output = ifEq (back .number) 0 (entries n (take (back .first) output)) (brief 131 (back .number) n)
 
-unfoldable pub readLine : Outcome → Store → Reply
+unfoldable pub readLine : Outcome Store → Store → Reply
 readLine o store = readReply (returned (o .answer)) (entryCount store) (o .output)
 
 unfoldable pub placeReply : Returned → ℕ → Reply
 placeReply back n = ifEq (back .number) 0 (placed n (back .first) (back .second)) (brief 135 (back .number) n)
 
-unfoldable pub placeLine : Outcome → Store → Reply
+unfoldable pub placeLine : Outcome Store → Store → Reply
 placeLine o store = placeReply (returned (o .answer)) (entryCount store)
 
-unfoldable pub clearLine : Outcome → Reply
+unfoldable pub clearLine : Outcome Store → Reply
 clearLine o = brief 134 (returned (o .answer) .number) (entryCount (o .store))
 
-unfoldable pub cleared : Kept → Outcome → Answered
+unfoldable pub cleared : Kept → Outcome Store → Answered
 cleared k o = record {
   replies = clearLine o ∷ [];
   kept = record { store = o .store; tape = k .tape; waiting = k .waiting };
@@ -70,10 +80,10 @@ cleared k o = record {
 
 -- ---- tape
 
--- The words of the line wait behind the others, unless more than 1,024 would wait (cause 9).
+-- The words of the line wait behind the others, unless too many would wait (cause 9).
 unfoldable pub taped : List ℕ → ℕ → Kept → Answered
 taped line words k =
-    ifLt 1024 (k .waiting + words) (keeping k (brief 132 9 (entryCount (k .store))))
+    ifLt mostWaiting (k .waiting + words) (keeping k (refusal 132 cause.TapeFull (k .store)))
     (record {
       replies = brief 132 0 (entryCount (k .store)) ∷ [];
       kept = record {
@@ -85,9 +95,9 @@ taped line words k =
 
 -- ---- print
 
--- The line of leaf j, of s slots. Its range has the number first + j, and so has its count.
+-- The line of leaf j, of s slots. Its range has the number first + j.
 unfoldable pub leafReply : Store → ℕ → ℕ → ℕ → Reply
-leafReply store s first j = leaf j (getD (store .counts) (first + j) 0) (take s (drop (j * s) (store .slots)))
+leafReply store s first j = leaf j (getD (numbered store) (first + j) 0) (take s (drop (j * s) (store .slots)))
 
 -- The lines of the leaves j to j + k - 1.
 unfoldable pub leafReplies : Store → ℕ → ℕ → ℕ → ℕ → List Reply
@@ -108,7 +118,7 @@ sheetReplies store =
 unfoldable pub printReplies : ℕ → Store → List Reply
 printReplies number store = brief 133 number (entryCount store) ∷ ifEq number 0 (sheetReplies store) []
 
-unfoldable pub printLines : Outcome → Store → List Reply
+unfoldable pub printLines : Outcome Store → Store → List Reply
 printLines o store = printReplies (returned (o .answer) .number) store
 
 -- ---- a frame, and a line
@@ -116,17 +126,17 @@ printLines o store = printReplies (returned (o .answer) .number) store
 -- What a frame is answered by. The first byte of an answer is the frame's plus 80 in hexadecimal: 129 to 135; 255 and cause 8 answer
 -- a line that is no frame. A read has room for 64 entries.
 unfoldable pub answerTo : Frame → List ℕ → Kept → Answered
-answerTo (Insert rank entry) line k = changed 129 k (outcome clubs (insert rank entry) (take (k .waiting) (k .tape)) (k .store) [])
-answerTo (Delete rank) line k = changed 130 k (outcome clubs (delete rank) (take (k .waiting) (k .tape)) (k .store) [])
+answerTo (Insert rank entry) line k = changed 129 k (outcome (plain clubs) (insert rank entry) (take (k .waiting) (k .tape)) (k .store) [])
+answerTo (Delete rank) line k = changed 130 k (outcome (plain clubs) (delete rank) (take (k .waiting) (k .tape)) (k .store) [])
 answerTo (Read first last) line k =
-    keeping k (readLine (outcome clubs (read first last 64) [] (k .store) (replicate 64 0)) (k .store))
+    keeping k (readLine (outcome (plain clubs) (read first last 64) [] (k .store) (replicate 64 0)) (k .store))
 answerTo (Tape words) line k = taped line words k
 answerTo Print line k =
-    record { replies = printLines (outcome clubs check [] (k .store) []) (k .store); kept = k }
-answerTo Clear line k = cleared k (outcome clubs clear [] (k .store) [])
+    record { replies = printLines (outcome (plain clubs) check [] (k .store) []) (k .store); kept = k }
+answerTo Clear line k = cleared k (outcome (plain clubs) clear [] (k .store) [])
 answerTo (Place rank) line k =
-    keeping k (placeLine (outcome clubs (place rank) [] (k .store) []) (k .store))
-answerTo NoFrame line k = keeping k (brief 255 8 (entryCount (k .store)))
+    keeping k (placeLine (outcome (plain clubs) (place rank) [] (k .store) []) (k .store))
+answerTo NoFrame line k = keeping k (refusal 255 cause.NoFrame (k .store))
 
 -- What lines, one after the other, are answered by.
 unfoldable pub answersTo : List (List ℕ) → Kept → List ℕ
@@ -152,12 +162,12 @@ handed a output = record {
   output = bytesOf (a .replies) ++ drop (length (bytesOf (a .replies))) output;
 }
 
--- One step on a line without its LF. Where the output is too short for the longest answer, the tape has not 1,024 words, or more than
--- these are said to wait, there is no answer and nothing changes.
+-- One step on a line without its LF. Where the output is too short for the longest answer, the tape has not room for the words that may
+-- wait, or more than these are said to wait, there is no answer and nothing changes.
 unfoldable pub stepOf : List ℕ → Kept → List ℕ → Step
 stepOf line k output =
     let nothing : Step = record { bytes = 0; kept = k; output = output } in
     ifLt (length output) longest nothing
-    (ifEq (length (k .tape)) 1024
-    (ifLt 1024 (k .waiting) nothing (handed (answerTo (frameOf line) line k) output))
+    (ifEq (length (k .tape)) mostWaiting
+    (ifLt mostWaiting (k .waiting) nothing (handed (answerTo (frameOf line) line k) output))
     nothing)

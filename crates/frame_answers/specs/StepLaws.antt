@@ -7,17 +7,23 @@ use native.Mathlib.Nat.{zero-add}
 use lib.ListN.{length, getD, take, drop}
 use Rattle.base.specs.CaseLaws.{ifEq-yes, ifEq-no, ifLt-yes, ifLt-no}
 use Rattle.store_layout.specs.Layout.{Store}
+use Rattle.call_outcomes.specs.declared.Cause.the-variants as cause
 use Rattle.call_outcomes.specs.declared.Returned.{Returned}
 use Rattle.call_outcomes.specs.declared.Answer.{Answer}
-use Rattle.call_outcomes.specs.Call.{read, returned, clubs}
-use Rattle.call_outcomes.specs.Outcome.{storeOf, outcomeOf, Outcome, outcome}
+use Rattle.call_outcomes.specs.Returns.{causeNumber, returned}
+use Rattle.call_outcomes.specs.Outcome.{Outcome, outcome}
+use Rattle.call_outcomes.specs.DecisionLaws.{question-outcome}
+use Rattle.call_outcomes.specs.AnswerLaws.{number-accepted}
+use Rattle.call_outcomes.specs.Plain.{readRanks, replyTo, plain, read, storeOf, outcomeOf}
+use Rattle.call_outcomes.specs.PlainLaws.{read-within}
+use Rattle.call_outcomes.specs.AcceptedLaws.{question-free}
+use Rattle.call_outcomes.specs.Clubs.{clubs}
 use Rattle.frame_lines.specs.Frame.{frameOf}
 use Rattle.frame_replies.specs.Reply.{Reply, brief, entries, placed, lineOf, bytesOf}
 use Rattle.frame_replies.specs.Wrote.{Wrote}
-use Rattle.frame_tape.specs.Tape.{lineWords}
-use Rattle.frame_answers.specs.Step.{Kept, Step, entryCount, keeping, readReply, readLine, placeReply, placeLine, clearLine, cleared, taped, answerTo, longest, handed, stepOf}
+use Rattle.frame_tape.specs.Tape.{mostWaiting, lineWords}
+use Rattle.frame_answers.specs.Step.{Kept, Step, entryCount, refusal, keeping, readReply, readLine, placeReply, placeLine, clearLine, cleared, taped, answerTo, longest, handed, stepOf}
 use Rattle.frame_answers.specs.Gives.{keptOf, Gives, ClearGives}
-use Rattle.call_outcomes.specs.AnswerLaws.{entries-within}
 
 -- An answer of one line.
 pub one-line : {old new : List ℕ} {at next : ℕ} (reply : Reply) → Wrote old at (lineOf reply) new next → Wrote old at (bytesOf (reply ∷ [])) new next
@@ -26,7 +32,7 @@ one-line reply w = rw (append-nil (lineOf reply)) w
 
 -- ---- read, place and clear
 
-module _ {o : Outcome} {given : Answer} {slots counts output : List ℕ} {back : Returned}
+module _ {o : Outcome Store} {given : Answer} {slots counts output : List ℕ} {back : Returned}
     (done : outcomeOf given slots counts output ≡ o) (is : back ≡ returned given) where
   pub read-refused : back .number ≢ 0 → brief 131 (back .number) (getD counts 1 0) ≡ readLine o (storeOf slots counts)
   unfolding readLine readReply entryCount
@@ -47,30 +53,35 @@ module _ {o : Outcome} {given : Answer} {slots counts output : List ℕ} {back :
   pub clear-gives : {before after : List ℕ} {bytes : ℕ} → Wrote before 0 (lineOf (brief 134 (back .number) (getD counts 1 0))) after bytes
       → ClearGives o before bytes (storeOf slots counts) after
   unfolding clearLine entryCount
-  clear-gives w = record { store-is = ap (λ (x : Outcome). x .store) done; wrote = rw (← done, ← is) w }
+  clear-gives w = record { store-is = ap (λ (x : Outcome Store). x .store) done; wrote = rw (← done, ← is) w }
 
-pub read-most : (first last : ℕ) (store : Store) (given : Answer) (slots counts output output′ : List ℕ) (back : Returned)
-    → outcomeOf given slots counts output′ ≡ outcome clubs (read first last 64) [] store output → back ≡ returned given → back .number ≡ 0
-    → back .first ≤ 64
-read-most first last store given slots counts output output′ back done is zero-is =
-    let e : returned (outcome clubs (read first last 64) [] store output .answer) ≡ back = rw (← done, is) in
-    rw (← e) (entries-within clubs first last 64 store output (rw e zero-is))
+-- An accepted read gives no more entries than it has room for.
+pub read-most : (first last room : ℕ) (store : Store) (given : Answer) (slots counts output output′ : List ℕ) (back : Returned)
+    → outcomeOf given slots counts output′ ≡ outcome (plain clubs) (read first last room) [] store output → back ≡ returned given
+    → back .number ≡ 0 → back .first ≤ room
+unfolding replyTo
+read-most first last room store given slots counts output output′ back done is zero-is =
+    let q = readRanks first last room in
+    let same : returned (outcome (plain clubs) (read first last room) [] store output .answer) ≡ back = rw (← done, is) in
+    let a = number-accepted (plain clubs) (read first last room) [] store output (rw same zero-is) in
+    let within = read-within first last room _ (question-free clubs store (a .0) q (a .1)) in
+    rw (← same, question-outcome (plain clubs) q [] store output (a .0) (a .1)) (within .2)
 
 -- ---- tape
 
 module _ (line tape slots counts : List ℕ) (words waiting : ℕ) where
-  pub taped-full : 1024 < waiting + words → {output output′ : List ℕ} {bytes : ℕ}
-      → Wrote output 0 (lineOf (brief 132 9 (getD counts 1 0))) output′ bytes
+  pub taped-full : mostWaiting < waiting + words → {output output′ : List ℕ} {bytes : ℕ}
+      → Wrote output 0 (lineOf (brief 132 (causeNumber cause.TapeFull) (getD counts 1 0))) output′ bytes
       → Gives (taped line words (keptOf (storeOf slots counts) tape waiting)) output bytes waiting (storeOf slots counts) tape output′
-  unfolding taped keeping entryCount
-  taped-full l w = rw (ifLt-yes 1024 (waiting + words) _ _ l) record { kept = refl; wrote = one-line _ w }
+  unfolding taped refusal keeping entryCount
+  taped-full l w = rw (ifLt-yes mostWaiting (waiting + words) _ _ l) record { kept = refl; wrote = one-line _ w }
 
-  pub taped-more : waiting + words ≤ 1024 → {output output′ tape′ : List ℕ} {bytes : ℕ}
+  pub taped-more : waiting + words ≤ mostWaiting → {output output′ tape′ : List ℕ} {bytes : ℕ}
       → tape′ ≡ take waiting tape ++ (lineWords line 0 words ++ drop (waiting + words) tape)
       → Wrote output 0 (lineOf (brief 132 0 (getD counts 1 0))) output′ bytes
       → Gives (taped line words (keptOf (storeOf slots counts) tape waiting)) output bytes (waiting + words) (storeOf slots counts) tape′ output′
   unfolding taped entryCount
-  taped-more l e w = rw (ifLt-no 1024 (waiting + words) _ _ l) record { kept = rw e; wrote = one-line _ w }
+  taped-more l e w = rw (ifLt-no mostWaiting (waiting + words) _ _ l) record { kept = rw e; wrote = one-line _ w }
 
 -- ---- a frame
 
@@ -84,7 +95,7 @@ module _ {store : Store} {tape output output′ : List ℕ} {waiting bytes : ℕ
       → Gives (record { replies = replies; kept = keptOf store tape waiting }) output bytes waiting store tape output′
   printed-gives replies w = record { kept = refl; wrote = w }
 
-pub cleared-gives : (store : Store) (o : Outcome) {tape output output′ : List ℕ} {waiting bytes : ℕ} {store′ : Store}
+pub cleared-gives : (store : Store) (o : Outcome Store) {tape output output′ : List ℕ} {waiting bytes : ℕ} {store′ : Store}
     → ClearGives o output bytes store′ output′ → Gives (cleared (keptOf store tape waiting) o) output bytes waiting store′ tape output′
 unfolding cleared
 cleared-gives store o {tape} {waiting = waiting} g = record {
@@ -102,20 +113,20 @@ module _ (line : List ℕ) (k : Kept) (output : List ℕ) where
   unfolding stepOf
   step-short l = sym (ifLt-yes (length output) longest _ _ l)
 
-  pub step-tape : longest ≤ length output → length (k .tape) ≢ 1024 → nothing ≡ stepOf line k output
+  pub step-tape : longest ≤ length output → length (k .tape) ≢ mostWaiting → nothing ≡ stepOf line k output
   unfolding stepOf
-  step-tape l ne = sym (ifLt-no (length output) longest _ _ l ∙ ifEq-no (length (k .tape)) 1024 _ _ ne)
+  step-tape l ne = sym (ifLt-no (length output) longest _ _ l ∙ ifEq-no (length (k .tape)) mostWaiting _ _ ne)
 
-  module _ (l : longest ≤ length output) (e : length (k .tape) ≡ 1024) where
-    pub step-waiting : 1024 < k .waiting → nothing ≡ stepOf line k output
+  module _ (l : longest ≤ length output) (e : length (k .tape) ≡ mostWaiting) where
+    pub step-waiting : mostWaiting < k .waiting → nothing ≡ stepOf line k output
     unfolding stepOf
-    step-waiting w = sym (ifLt-no (length output) longest _ _ l ∙ ifEq-yes (length (k .tape)) 1024 _ _ e ∙ ifLt-yes 1024 (k .waiting) _ _ w)
+    step-waiting w = sym (ifLt-no (length output) longest _ _ l ∙ ifEq-yes (length (k .tape)) mostWaiting _ _ e ∙ ifLt-yes mostWaiting (k .waiting) _ _ w)
 
-    pub step-done : k .waiting ≤ 1024 → {bytes waiting : ℕ} {store : Store} {tape output′ : List ℕ}
+    pub step-done : k .waiting ≤ mostWaiting → {bytes waiting : ℕ} {store : Store} {tape output′ : List ℕ}
         → Gives (answerTo (frameOf line) line k) output bytes waiting store tape output′
         → record { bytes = bytes; kept = keptOf store tape waiting; output = output′ } ≡ stepOf line k output
     unfolding stepOf handed
     step-done w g =
         let size : _ ≡ length (bytesOf (answerTo (frameOf line) line k .replies)) = g .wrote .end ∙ zero-add _ in
         rw (g .kept, g .wrote .is, size)
-        (sym (ifLt-no (length output) longest _ _ l ∙ ifEq-yes (length (k .tape)) 1024 _ _ e ∙ ifLt-no 1024 (k .waiting) _ _ w))
+        (sym (ifLt-no (length output) longest _ _ l ∙ ifEq-yes (length (k .tape)) mostWaiting _ _ e ∙ ifLt-no mostWaiting (k .waiting) _ _ w))

@@ -3,13 +3,18 @@ ghost use mathlib.Core.Path.{_≡_};
 ghost use mathlib.Core.List.{[]};
 ghost use Prim.Native.Nat.{_≤_};
 ghost use lib.ListN.{length, getD, replicate};
-ghost use Rattle.call_outcomes.specs.Call as call;
-ghost use Rattle.call_outcomes.specs.Outcome.{storeOf, outcome};
+ghost use Rattle.call_outcomes.specs.Kind.{clear};
+ghost use Rattle.call_outcomes.specs.Outcome.{outcome};
+ghost use Rattle.call_outcomes.specs.Plain as call;
+ghost use Rattle.call_outcomes.specs.Plain.{plain, storeOf};
+ghost use Rattle.call_outcomes.specs.Clubs.{clubs};
 ghost use Rattle.frame_lines.specs.Frame.{frameOf, wordsOf};
 ghost use Rattle.frame_replies.specs.Reply.{brief, lineOf};
 ghost use Rattle.frame_replies.specs.Wrote.{Wrote};
+ghost use Rattle.frame_tape.specs.Tape.{mostWaiting};
 ghost use Rattle.frame_answers.specs.Step.{readLine, placeLine, taped};
 ghost use Rattle.frame_answers.specs.Gives.{keptOf, Gives, ClearGives};
+use call_outcomes::Cause;
 
 // What a step gives: how many bytes of answer stand at the front of the output, and how many words wait now.
 pub struct Stepped {
@@ -46,7 +51,7 @@ pub fn read_line(
 ) -> usize
     requires { ⌜ 1033 ≤ length (now output) ⌝ }
     ensures { λ r. ⌜ Wrote (now (output .entry)) 0
-        (lineOf (readLine (outcome call.clubs (call.read first last 64) [] (storeOf (now (slots .entry)) (now (counts .entry))) (replicate 64 0))
+        (lineOf (readLine (outcome (plain clubs) (call.read first last 64) [] (storeOf (now (slots .entry)) (now (counts .entry))) (replicate 64 0))
         (storeOf (now (slots .entry)) (now (counts .entry)))))
         (now (output .exit)) r ⌝ }
 {
@@ -65,7 +70,7 @@ pub fn read_line(
 pub fn place_line(slots: &[u64], counts: &[u16], rank: usize, output: &mut [u8]) -> usize
     requires { ⌜ 17 ≤ length (now output) ⌝ }
     ensures { λ r. ⌜ Wrote (now (output .entry)) 0
-        (lineOf (placeLine (outcome call.clubs (call.place rank) [] (storeOf (now (slots .entry)) (now (counts .entry))) [])
+        (lineOf (placeLine (outcome (plain clubs) (call.place rank) [] (storeOf (now (slots .entry)) (now (counts .entry))) [])
         (storeOf (now (slots .entry)) (now (counts .entry)))))
         (now (output .exit)) r ⌝ }
 {
@@ -81,7 +86,7 @@ pub fn place_line(slots: &[u64], counts: &[u16], rank: usize, output: &mut [u8])
 // A clear.
 pub fn clear_line(slots: &mut [u64], counts: &mut [u16], output: &mut [u8]) -> usize
     requires { ⌜ 9 ≤ length (now output) ⌝ }
-    ensures { λ r. ⌜ ClearGives (outcome call.clubs call.clear [] (storeOf (now (slots .entry)) (now (counts .entry))) [])
+    ensures { λ r. ⌜ ClearGives (outcome (plain clubs) clear [] (storeOf (now (slots .entry)) (now (counts .entry))) [])
         (now (output .entry)) r (storeOf (now (slots .exit)) (now (counts .exit))) (now (output .exit)) ⌝ }
 {
     let back = sheet_calls::clear(slots, counts).returned();
@@ -99,15 +104,16 @@ pub fn tape_line(
     output: &mut [u8],
 ) -> Stepped
     requires line { ⌜ wordsOf (frameOf (now line)) ≡ words ⌝ }
-    requires tape { ⌜ length (now tape) ≡ 1024 ⌝ }
-    requires waiting { ⌜ waiting ≤ 1024 ⌝ }
+    requires tape { ⌜ length (now tape) ≡ mostWaiting ⌝ }
+    requires waiting { ⌜ waiting ≤ mostWaiting ⌝ }
     requires room { ⌜ 9 ≤ length (now output) ⌝ }
     ensures { λ r. ⌜ Gives
         (taped (now (line .entry)) words (keptOf (storeOf (now (slots .entry)) (now (counts .entry))) (now (tape .entry)) waiting))
         (now (output .entry)) (r .bytes) (r .waiting) (storeOf (now (slots .entry)) (now (counts .entry))) (now (tape .exit)) (now (output .exit)) ⌝ }
 {
-    if 1024 - waiting < words {
-        let refused = answer(output, 132, 9, counts);
+    if tape.len() - waiting < words {
+        let full = Cause::TapeFull.number();
+        let refused = answer(output, 132, full, counts);
         return Stepped {
             bytes: refused,
             waiting: waiting,

@@ -1,17 +1,18 @@
 -- What the answer to an insert or a delete comes to, told by what its call left.
-use mathlib.Core.Path.{_≡_, refl}
+use mathlib.Core.Path.{_≡_}
 use mathlib.Core.List.{List, []}
 use Prim.Native.Nat.{ℕ, _-_, _≤_}
 use lib.ListN.{length, getD, take}
 use lib.Seq.{length-take-le}
 use Rattle.tree_rules.specs.declared.Change.{Change}
-use Rattle.tree_rules.specs.declared.Change.the-variants.{Insert, Delete}
 use Rattle.store_layout.specs.Layout.{Store}
 use Rattle.call_outcomes.specs.declared.Returned.{Returned}
 use Rattle.call_outcomes.specs.declared.Answer.{Answer}
-use Rattle.call_outcomes.specs.Call.{changing, returned, clubs}
-use Rattle.call_outcomes.specs.Outcome.{storeOf, outcomeOf, outcome, answerOf}
+use Rattle.call_outcomes.specs.Returns.{returned}
+use Rattle.call_outcomes.specs.Outcome.{outcome}
 use Rattle.call_outcomes.specs.AnswerLaws.{words-within}
+use Rattle.call_outcomes.specs.Plain.{plainChange, plain, changing, storeOf, outcomeOf}
+use Rattle.call_outcomes.specs.Clubs.{clubs}
 use Rattle.frame_replies.specs.Reply.{brief, lineOf}
 use Rattle.frame_replies.specs.Wrote.{Wrote}
 use Rattle.frame_tape.specs.Tape.{readOff}
@@ -27,22 +28,16 @@ pub change-gives : (kind waiting : ℕ) (back : Returned) (slots counts tape tap
 unfolding changedBy entryCount
 change-gives kind waiting back slots counts tape tape′ e w = record { kept = rw e; wrote = one-line _ w }
 
--- A change answers with the number of words that it read.
-second-words : (change : Change) (e : ℕ) (list : List ℕ) (words : ℕ) → returned (answerOf (changing change e) list words) .second ≡ words
-unfolding answerOf
-second-words (Insert i) e list words = refl
-second-words (Delete i) e list words = refl
-
 module _ (change : Change) (e : ℕ) (store : Store) (tape : List ℕ) (waiting : ℕ) (given : Answer) (slots counts : List ℕ) (back : Returned)
-    (done : outcomeOf given slots counts [] ≡ outcome clubs (changing change e) (take waiting tape) store []) (is : back ≡ returned given) where
+    (done : outcomeOf given slots counts [] ≡ outcome (plain clubs) (changing change e) (take waiting tape) store []) (is : back ≡ returned given) where
   pub changed-gives : (kind : ℕ) {output output′ tape′ : List ℕ} {bytes waiting′ : ℕ} {store′ : Store}
       → Gives (changedBy kind (keptOf (storeOf slots counts) tape waiting) back (storeOf slots counts)) output bytes waiting′ store′ tape′ output′
-      → Gives (changed kind (keptOf store tape waiting) (outcome clubs (changing change e) (take waiting tape) store [])) output bytes waiting′ store′ tape′ output′
+      → Gives (changed kind (keptOf store tape waiting) (outcome (plain clubs) (changing change e) (take waiting tape) store [])) output bytes waiting′ store′ tape′ output′
   unfolding changed changedBy
   changed-gives kind g = rw (← done) (rw is at g)
 
   -- no more words are read than wait
   pub words-waiting : waiting ≤ length tape → back .second ≤ waiting
   words-waiting l =
-      let most = words-within clubs (changing change e) (take waiting tape) store [] (second-words change e) in
+      let most = words-within (plain clubs) (plainChange change e) (take waiting tape) store [] in
       rw (is, ← length-take-le waiting tape l) (rw (← done) at most)

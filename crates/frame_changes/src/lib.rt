@@ -5,8 +5,10 @@ use tree_rules::Change;
 ghost use mathlib.Core.List.{[]};
 ghost use Prim.Native.Nat.{_≤_};
 ghost use lib.ListN.{length, take};
-ghost use Rattle.call_outcomes.specs.Call as call;
-ghost use Rattle.call_outcomes.specs.Outcome.{storeOf, outcome};
+ghost use Rattle.call_outcomes.specs.Outcome.{outcome};
+ghost use Rattle.call_outcomes.specs.Plain as call;
+ghost use Rattle.call_outcomes.specs.Plain.{plain, storeOf};
+ghost use Rattle.call_outcomes.specs.Clubs.{clubs};
 ghost use Rattle.frame_answers.specs.Step.{changedBy, changed};
 ghost use Rattle.frame_answers.specs.Gives.{keptOf, Gives};
 
@@ -52,7 +54,7 @@ fn change_line(
     requires room { ⌜ 9 ≤ length (now output) ⌝ }
     ensures { λ r. ⌜ Gives
         (changed kind (keptOf (storeOf (now (slots .entry)) (now (counts .entry))) (now (tape .entry)) waiting)
-        (outcome call.clubs (call.changing change entry) (take waiting (now (tape .entry))) (storeOf (now (slots .entry)) (now (counts .entry))) []))
+        (outcome (plain clubs) (call.changing change entry) (take waiting (now (tape .entry))) (storeOf (now (slots .entry)) (now (counts .entry))) []))
         (now (output .entry)) (r .bytes) (r .waiting) (storeOf (now (slots .exit)) (now (counts .exit))) (now (tape .exit)) (now (output .exit)) ⌝ }
 {
     let back = sheet_calls::make_change(slots, counts, change, entry, &tape[..waiting]).returned();
@@ -73,7 +75,7 @@ pub fn insert_line(
     requires room { ⌜ 9 ≤ length (now output) ⌝ }
     ensures { λ r. ⌜ Gives
         (changed 129 (keptOf (storeOf (now (slots .entry)) (now (counts .entry))) (now (tape .entry)) waiting)
-        (outcome call.clubs (call.insert rank entry) (take waiting (now (tape .entry))) (storeOf (now (slots .entry)) (now (counts .entry))) []))
+        (outcome (plain clubs) (call.insert rank entry) (take waiting (now (tape .entry))) (storeOf (now (slots .entry)) (now (counts .entry))) []))
         (now (output .entry)) (r .bytes) (r .waiting) (storeOf (now (slots .exit)) (now (counts .exit))) (now (tape .exit)) (now (output .exit)) ⌝ }
 {
     change_line(
@@ -101,7 +103,7 @@ pub fn delete_line(
     requires room { ⌜ 9 ≤ length (now output) ⌝ }
     ensures { λ r. ⌜ Gives
         (changed 130 (keptOf (storeOf (now (slots .entry)) (now (counts .entry))) (now (tape .entry)) waiting)
-        (outcome call.clubs (call.delete rank) (take waiting (now (tape .entry))) (storeOf (now (slots .entry)) (now (counts .entry))) []))
+        (outcome (plain clubs) (call.delete rank) (take waiting (now (tape .entry))) (storeOf (now (slots .entry)) (now (counts .entry))) []))
         (now (output .entry)) (r .bytes) (r .waiting) (storeOf (now (slots .exit)) (now (counts .exit))) (now (tape .exit)) (now (output .exit)) ⌝ }
 {
     change_line(

@@ -4,13 +4,17 @@ use mathlib.Core.List.{List, []}
 use Prim.Native.Nat.{ℕ}
 use lib.ListN.{getD, replicate}
 use Rattle.store_layout.specs.Layout.{Store}
-use Rattle.call_outcomes.specs.Call as call
-use Rattle.call_outcomes.specs.Outcome.{storeOf, outcome}
+use Rattle.call_outcomes.specs.declared.Cause.the-variants as cause
+use Rattle.call_outcomes.specs.Returns.{causeNumber}
+use Rattle.call_outcomes.specs.Outcome.{outcome}
+use Rattle.call_outcomes.specs.Plain as call
+use Rattle.call_outcomes.specs.Plain.{plain, storeOf}
+use Rattle.call_outcomes.specs.Clubs.{clubs}
 use Rattle.frame_lines.specs.declared.Frame.{Frame}
 use Rattle.frame_lines.specs.declared.Frame.the-variants.{Insert, Delete, Read, Tape, Print, Clear, Place, NoFrame}
 use Rattle.frame_replies.specs.Reply.{brief, lineOf, bytesOf}
 use Rattle.frame_replies.specs.Wrote.{Wrote}
-use Rattle.frame_answers.specs.Step.{answerTo, keeping, entryCount, readLine, placeLine, printLines}
+use Rattle.frame_answers.specs.Step.{answerTo, refusal, keeping, entryCount, readLine, placeLine, printLines}
 use Rattle.frame_answers.specs.StepLaws.{one-line, printed-gives}
 use Rattle.frame_answers.specs.Gives.{keptOf, Gives}
 use Rattle.frame_dispatch.specs.Question.{Asks, repliesTo}
@@ -22,26 +26,26 @@ Replied frame store old new r = Wrote old 0 (bytesOf (repliesTo frame store)) ne
 
 module _ (slots counts : List ℕ) {frame : Frame} {old new : List ℕ} {r : ℕ} where
   pub read-replied : {first last : ℕ} → frame ≡ Read first last
-      → Wrote old 0 (lineOf (readLine (outcome call.clubs (call.read first last 64) [] (storeOf slots counts) (replicate 64 0)) (storeOf slots counts))) new r
+      → Wrote old 0 (lineOf (readLine (outcome (plain clubs) (call.read first last 64) [] (storeOf slots counts) (replicate 64 0)) (storeOf slots counts))) new r
       → Replied frame (storeOf slots counts) old new r
   unfolding repliesTo answerTo keeping
   read-replied e w = rw e (one-line _ w)
 
   pub print-replied : frame ≡ Print
-      → Wrote old 0 (bytesOf (printLines (outcome call.clubs call.check [] (storeOf slots counts) []) (storeOf slots counts))) new r
+      → Wrote old 0 (bytesOf (printLines (outcome (plain clubs) call.check [] (storeOf slots counts) []) (storeOf slots counts))) new r
       → Replied frame (storeOf slots counts) old new r
   unfolding repliesTo answerTo
   print-replied e w = rw e w
 
   pub place-replied : {rank : ℕ} → frame ≡ Place rank
-      → Wrote old 0 (lineOf (placeLine (outcome call.clubs (call.place rank) [] (storeOf slots counts) []) (storeOf slots counts))) new r
+      → Wrote old 0 (lineOf (placeLine (outcome (plain clubs) (call.place rank) [] (storeOf slots counts) []) (storeOf slots counts))) new r
       → Replied frame (storeOf slots counts) old new r
   unfolding repliesTo answerTo keeping
   place-replied e w = rw e (one-line _ w)
 
-  pub none-replied : frame ≡ NoFrame → Wrote old 0 (lineOf (brief 255 8 (getD counts 1 0))) new r
+  pub none-replied : frame ≡ NoFrame → Wrote old 0 (lineOf (brief 255 (causeNumber cause.NoFrame) (getD counts 1 0))) new r
       → Replied frame (storeOf slots counts) old new r
-  unfolding repliesTo answerTo keeping entryCount
+  unfolding repliesTo answerTo refusal keeping entryCount
   none-replied e w = rw e (one-line _ w)
 
 -- ---- what is kept

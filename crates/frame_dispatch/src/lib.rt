@@ -1,11 +1,13 @@
 // A frame, answered by its kind.
+use call_outcomes::Cause;
 use frame_answers::Stepped;
 use frame_lines::Frame;
 ghost use mathlib.Core.Path.{_≡_};
 ghost use Prim.Native.Nat.{_≤_};
 ghost use lib.ListN.{length};
-ghost use Rattle.call_outcomes.specs.Outcome.{storeOf};
+ghost use Rattle.call_outcomes.specs.Plain.{storeOf};
 ghost use Rattle.frame_lines.specs.Frame.{frameOf};
+ghost use Rattle.frame_tape.specs.Tape.{mostWaiting};
 ghost use Rattle.frame_replies.specs.Reply.{bytesOf};
 ghost use Rattle.frame_replies.specs.Wrote.{Wrote};
 ghost use Rattle.frame_answers.specs.Step.{answerTo, longest};
@@ -22,7 +24,10 @@ fn answer_question(frame: Frame, slots: &[u64], counts: &[u16], output: &mut [u8
         Frame::Read { first, last } => frame_answers::read_line(slots, counts, first, last, output),
         Frame::Print => frame_print::print_line(slots, counts, output),
         Frame::Place { rank } => frame_answers::place_line(slots, counts, rank, output),
-        _ => frame_answers::answer(output, 255, 8, counts),
+        _ => {
+            let number = Cause::NoFrame.number();
+            frame_answers::answer(output, 255, number, counts)
+        }
     }
 }
 
@@ -37,8 +42,8 @@ pub fn answer_frame(
     output: &mut [u8],
 ) -> Stepped
     requires frame { ⌜ frame ≡ frameOf (now line) ⌝ }
-    requires tape { ⌜ length (now tape) ≡ 1024 ⌝ }
-    requires waiting { ⌜ waiting ≤ 1024 ⌝ }
+    requires tape { ⌜ length (now tape) ≡ mostWaiting ⌝ }
+    requires waiting { ⌜ waiting ≤ mostWaiting ⌝ }
     requires room { ⌜ longest ≤ length (now output) ⌝ }
     ensures { λ r. ⌜ Gives
         (answerTo frame (now (line .entry)) (keptOf (storeOf (now (slots .entry)) (now (counts .entry))) (now (tape .entry)) waiting))

@@ -226,7 +226,3 @@ over-open (chunk ∷ chunks) {w} p line have room s =
 pub over-chunks : (chunks : List (List ℕ)) (line : List ℕ) → 0 < length line
     → linesOver chunks line 0 ≡ map (take (length line)) (linesOf (joined chunks))
 over-chunks chunks line room = over-open chunks [] line 0 room (holds-none line (length line) refl)
-
--- With a line buffer of 256 bytes.
-pub lines-cut : (chunks : List (List ℕ)) (line : List ℕ) → length line ≡ 256 → linesOver chunks line 0 ≡ map (take 256) (linesOf (joined chunks))
-lines-cut chunks line e = over-chunks chunks line (omega arith) ∙ rw e

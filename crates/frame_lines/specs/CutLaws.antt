@@ -1,4 +1,4 @@
--- A line of more than 130 bytes is no frame, so that the first 256 bytes of a line tell what frame it is.
+-- A line of more than 130 bytes is no frame, so that its first bytes, if they are more than these, tell what frame it is.
 use mathlib.Core.Path.{_≡_, refl, ap, sym, _∙_}
 use mathlib.Core.Logic.{_⊎_, inl, inr, ⊎-elim}
 use mathlib.Core.List.{List}
@@ -27,14 +27,15 @@ module _ (line : List ℕ) (long : 130 < length line) where
       (λ n x (l : n ≤ 22) _. length-other line n x (λ e. omega (arith, e, l)))
       long-tape refl
 
--- The first 256 bytes of a line are the whole line, or both are no frame.
-pub cut-same : (line : List ℕ) → (take 256 line ≡ line) ⊎ ((frameOf (take 256 line) ≡ NoFrame) × (frameOf line ≡ NoFrame))
-cut-same line =
-    ⊎-elim
-    (λ (l : length line < 256). inl (take-all 256 line (omega arith)))
-    (λ (l : 256 ≤ length line).
-    inr (frame-long (take 256 line) (omega (arith, length-take-le 256 line l)), frame-long line (omega arith)))
-    (lt-or-ge (length line) 256)
+module _ (size : ℕ) (more : 130 < size) where
+  -- The first bytes of a line are the whole line, or both are no frame.
+  pub cut-same : (line : List ℕ) → (take size line ≡ line) ⊎ ((frameOf (take size line) ≡ NoFrame) × (frameOf line ≡ NoFrame))
+  cut-same line =
+      ⊎-elim
+      (λ (l : length line < size). inl (take-all size line (omega arith)))
+      (λ (l : size ≤ length line).
+      inr (frame-long (take size line) (omega (arith, length-take-le size line l)), frame-long line (omega arith)))
+      (lt-or-ge (length line) size)
 
-pub frame-cut : (line : List ℕ) → frameOf (take 256 line) ≡ frameOf line
-frame-cut line = ⊎-elim (λ e. ap frameOf e) (λ both. both .0 ∙ sym (both .1)) (cut-same line)
+  pub frame-cut : (line : List ℕ) → frameOf (take size line) ≡ frameOf line
+  frame-cut line = ⊎-elim (λ e. ap frameOf e) (λ both. both .0 ∙ sym (both .1)) (cut-same line)

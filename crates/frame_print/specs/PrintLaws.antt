@@ -1,44 +1,46 @@
 -- What a print comes to, and that its output has room for it.
-use mathlib.Core.Path.{_≡_, ap}
+use mathlib.Core.Path.{_≡_}
 use mathlib.Core.Logic.{_≢_}
-use mathlib.Core.Option.{some}
 use mathlib.Core.List.{List, []}
 use Prim.Native.Nat.{ℕ, suc, _+_, _-_, _*_, _^_, _≤_, _<_}
 use native.Mathlib.Omega.{arith}
 use native.Mathlib.Numerals.{add-one}
 use native.Mathlib.Nat.{mul-le-mul-right}
-use borrow.Author.Tests.{eqb-true, not-false}
-use lib.Dec.{eqb}
 use lib.ListN.{length, getD, take, drop, length-take}
-use Rattle.base.specs.BoolLaws.{and-both}
+use lib.Pow.{pow-pos}
 use Rattle.base.specs.CaseLaws.{ifEq-yes, ifEq-no}
 use Rattle.tree_sizes.specs.Sizes.{height, leafSlots, slots}
 use Rattle.tree_sizes.specs.SizeLaws.{height-most}
-use Rattle.tree_sizes.specs.Capacity.{slots-2047, counts-2047}
-use Rattle.store_layout.specs.Layout.{Capacity, Store}
-use Rattle.store_layout.specs.Sheet.{Contents, shapeOf, decode}
-use Rattle.store_layout.specs.SheetLaws.{decoded, decode-sound}
+use Rattle.store_layout.specs.CountOrder.{numberOrder}
+use Rattle.store_layout.specs.Layout.{Store}
+use Rattle.store_layout.specs.Decode.{Contents, numbered}
+use Rattle.store_layout.specs.SheetLaws.{decode-sound, size-known}
 use Rattle.call_outcomes.specs.declared.Returned.{Returned}
 use Rattle.call_outcomes.specs.declared.Answer.{Answer}
-use Rattle.call_outcomes.specs.Call.{check, returned, clubs}
-use Rattle.call_outcomes.specs.Causes.{lengthsWrong, contentsFor}
-use Rattle.call_outcomes.specs.Outcome.{storeOf, outcomeOf, Outcome, outcome}
+use Rattle.call_outcomes.specs.Returns.{returned}
+use Rattle.call_outcomes.specs.Causes.{accept, decision}
+use Rattle.call_outcomes.specs.Outcome.{Outcome, outcome}
+use Rattle.call_outcomes.specs.AnswerLaws.{number-accepted}
+use Rattle.call_outcomes.specs.Plain.{RightLengths, countOf, plain, check, storeOf, outcomeOf}
+use Rattle.call_outcomes.specs.AcceptedLaws.{question-lengths, question-decoded}
+use Rattle.call_outcomes.specs.Clubs.{clubs}
+use Rattle.call_outcomes.specs.ClubsLaws.{clubs-roomy}
 use Rattle.frame_replies.specs.Reply.{leaf, sheet, brief, lineOf, bytesOf}
 use Rattle.frame_replies.specs.DigitLaws.{length-leaf}
 use Rattle.frame_replies.specs.Wrote.{Wrote}
 use Rattle.frame_replies.specs.WroteLaws.{wrote-length, wrote-more, writing-start, writing-next, writing-done}
-use Rattle.frame_answers.specs.Step.{entryCount, leafReply, leafReplies, leavesOf, sheetReplies, printReplies, printLines}
-use Rattle.frame_print.specs.Printed.{PrintReady, LeavesWritten}
+use Rattle.frame_answers.specs.Step.{entryCount, leafReply, leafReplies, leavesOf, sheetReplies, printReplies, printLines, longest}
+use Rattle.frame_print.specs.Printed.{PrintReady, leavesMost, LeavesWritten}
 use Rattle.frame_answers.specs.StepLaws.{one-line}
-use Rattle.call_outcomes.specs.AnswerLaws.{accepted}
 
 -- ---- the leaves
 
--- A slice of the slots as the code takes it.
-pub leaf-wrote : (store : Store) (s first j count : ℕ) {output output′ : List ℕ} {at next : ℕ} → count ≡ getD (store .counts) (first + j) 0
+-- The count and a slice of the slots, as the code takes them.
+pub leaf-wrote : (store : Store) (s first j count : ℕ) {output output′ : List ℕ} {at next : ℕ}
+    → count ≡ getD (numberOrder (height (getD (store .counts) 0 0)) (store .counts)) (first + j) 0
     → Wrote output at (lineOf (leaf j count (take (j * s + s - j * s) (drop (j * s) (store .slots))))) output′ next
     → Wrote output at (lineOf (leafReply store s first j)) output′ next
-unfolding leafReply
+unfolding leafReply numbered
 leaf-wrote store s first j count e w =
     let all : j * s + s - j * s ≡ s = omega arith in
     rw (all, e) at w
@@ -47,7 +49,7 @@ leaf-most : (store : Store) (s first j : ℕ) → length (lineOf (leafReply stor
 unfolding leafReply
 leaf-most store s first j =
     let part = drop (j * s) (store .slots) in
-    omega (arith, length-leaf j (getD (store .counts) (first + j) 0) (take s part), length-take s part)
+    omega (arith, length-leaf j (getD (numbered store) (first + j) 0) (take s part), length-take s part)
 
 module _ {store : Store} {s k : ℕ} {old : List ℕ} {at : ℕ} where
   pub leaves-start : at + k * (11 + 16 * s) ≤ length old → LeavesWritten store s k old at 0 old at
@@ -89,25 +91,30 @@ pub record LeafNumbers (store : Store) (s leaves : ℕ) : Type 0 where
   pub leaves-are : leaves ≡ 2 ^ height (getD (store .counts) 0 0)
   pub slots-fit : leaves * s ≤ length (store .slots)
   pub counts-fit : 2 * leaves ≤ length (store .counts)
-  pub output-fits : leaves * (11 + 16 * s) ≤ 68992
+  pub ranges-fit : 2 * 2 ^ height (getD (store .counts) 0 0) ≤ length (store .counts)
+  pub output-fits : leaves * (11 + 16 * s) ≤ leavesMost store
 
 module _ (store : Store) (sheet : PrintReady store) where
+  pub size-there : 0 < length (store .counts)
+  size-there = omega (arith, sheet .counts-fit, pow-pos (height (getD (store .counts) 0 0)))
+
   pub height-fits : height (getD (store .counts) 0 0) < 64
-  height-fits = omega (arith, height-most (getD (store .counts) 0 0) 11 (omega arith) (omega (arith, sheet .size)))
+  height-fits = omega (arith, height-most (getD (store .counts) 0 0) 16 (omega arith) (omega (arith, sheet .size)))
 
   pub leaf-numbers : (s h leaves : ℕ) → s ≡ leafSlots (getD (store .counts) 0 0) → h ≡ height (getD (store .counts) 0 0) → leaves ≡ 2 ^ h
       → LeafNumbers store s leaves
-  unfolding slots
+  unfolding slots leavesMost
   leaf-numbers s h leaves es eh el =
       let m = getD (store .counts) 0 0 in
       let two : leaves ≡ 2 ^ height m = rw (← eh) el in
-      let fits : leaves * s ≤ 4224 = rw (two, es) (omega (arith, slots-2047 m (sheet .size))) in
-      let few : 2 * leaves ≤ 256 = rw two (counts-2047 m (sheet .size)) in
+      let fits : leaves * s ≤ length (store .slots) = rw (two, es) (omega (arith, sheet .slots-fit)) in
+      let few : 2 * leaves ≤ length (store .counts) = rw two (sheet .counts-fit) in
       record {
         slots-are = es;
         leaves-are = two;
-        slots-fit = omega (arith, sheet .slots, fits);
-        counts-fit = omega (arith, sheet .counts, few);
+        slots-fit = fits;
+        counts-fit = few;
+        ranges-fit = sheet .counts-fit;
         output-fits = omega (arith, fits, few);
       }
 
@@ -126,7 +133,7 @@ module _ (slots counts : List ℕ) {output middle : List ℕ} {at next : ℕ}
 
 -- ---- the answer
 
-module _ {o : Outcome} {given : Answer} {slots counts : List ℕ} {back : Returned} (done : outcomeOf given slots counts [] ≡ o) (is : back ≡ returned given)
+module _ {o : Outcome Store} {given : Answer} {slots counts : List ℕ} {back : Returned} (done : outcomeOf given slots counts [] ≡ o) (is : back ≡ returned given)
     {output middle : List ℕ} {next : ℕ} (first : Wrote output 0 (lineOf (brief 133 (back .number) (getD counts 1 0))) middle next) where
   pub print-refused : back .number ≢ 0 → Wrote output 0 (bytesOf (printLines o (storeOf slots counts))) middle next
   unfolding printLines printReplies entryCount
@@ -137,21 +144,29 @@ module _ {o : Outcome} {given : Answer} {slots counts : List ℕ} {back : Return
   unfolding printLines printReplies bytesOf entryCount
   print-accepted e more = rw (← done, ← is, ifEq-yes (back .number) 0 _ _ e) (wrote-more first more)
 
--- M, which a print says, is the size parameter.
-pub size-known : (cap : Capacity) (store : Store) (c : Contents) → decode cap store ≡ some c → c .shape .size ≡ getD (store .counts) 0 0
-unfolding shapeOf
-size-known cap store c h = ap (λ (x : Contents). x .shape .size) (decoded cap store c h .1)
+-- A store that is a sheet of the clubs' can be printed.
+module _ (store : Store) (given : Answer) (slots counts : List ℕ) (back : Returned)
+    (done : outcomeOf given slots counts [] ≡ outcome (plain clubs) check [] store []) (is : back ≡ returned given) (zero-is : back .number ≡ 0) where
+  checked : (before : Contents) × (decision (plain clubs) check store ≡ accept before)
+  checked =
+      let same : returned (outcome (plain clubs) check [] store [] .answer) ≡ back = rw (← done, is) in
+      number-accepted (plain clubs) check [] store [] (rw same zero-is)
 
-pub printable : (store : Store) (given : Answer) (slots counts : List ℕ) (back : Returned)
-    → outcomeOf given slots counts [] ≡ outcome clubs check [] store [] → back ≡ returned given → back .number ≡ 0 → PrintReady store
-unfolding contentsFor lengthsWrong
-printable store given slots counts back done is zero-is =
-    let e : returned (outcome clubs check [] store [] .answer) ≡ back = rw (← done, is) in
-    let a = accepted clubs check [] store [] (rw e zero-is) in
-    let lengths = and-both (eqb (length (store .slots)) 4224) (eqb (length (store .counts)) 256) (not-false _ (a .right)) in
-    let valid = decode-sound clubs store (a .before) (a .held) .0 in
-    record {
-      counts = eqb-true (length (store .counts)) 256 (lengths .1);
-      slots = eqb-true (length (store .slots)) 4224 (lengths .0);
-      size = rw (← size-known clubs store (a .before) (a .held)) (omega (arith, valid .shape .allowed .most, valid .room));
-    }
+  lengths : RightLengths clubs store
+  lengths = question-lengths clubs store (checked .0) countOf (checked .1)
+
+  pub printable : PrintReady store
+  printable =
+      let found = question-decoded clubs store (checked .0) countOf (checked .1) in
+      let valid = decode-sound clubs store (checked .0) found .0 in
+      let size = size-known clubs store (checked .0) found in
+      record {
+        size = rw size (omega (arith, valid .shape .allowed .most, valid .room));
+        slots-fit = rw (size, lengths .slots) (clubs-roomy .slots-fit _ _ (valid .room) (valid .shape .allowed));
+        counts-fit = rw (size, lengths .counts) (clubs-roomy .counts-fit _ _ (valid .room) (valid .shape .allowed));
+      }
+
+  -- the longest answer has room for its lines
+  pub print-room : 20 + leavesMost store ≤ longest
+  unfolding leavesMost
+  print-room = rw (lengths .slots, lengths .counts) (omega arith)

@@ -1,18 +1,22 @@
 -- What can be printed, and how far a print has come. Definitions only.
-use mathlib.Core.Path.{_≡_}
 use mathlib.Core.List.{List}
-use Prim.Native.Nat.{ℕ, _+_, _-_, _*_, _<_, _≤_}
+use Prim.Native.Nat.{ℕ, _+_, _-_, _*_, _/_, _^_, _<_, _≤_}
 use lib.ListN.{length, getD}
+use Rattle.tree_sizes.specs.Sizes.{height, slots}
 use Rattle.store_layout.specs.Layout.{Store}
 use Rattle.frame_replies.specs.Reply.{bytesOf}
 use Rattle.frame_replies.specs.Wrote.{Writing}
 use Rattle.frame_answers.specs.Step.{leafReplies}
 
--- The store is a sheet that can be printed: its size parameter and its leaves are within the slots and the counts.
+-- The store can be printed: its slots and its counts are enough for its size parameter, which has 16 bits.
 pub record PrintReady (store : Store) : Type 0 where
-  pub counts : length (store .counts) ≡ 256
-  pub slots : length (store .slots) ≡ 4224
-  pub size : getD (store .counts) 0 0 < 2048
+  pub size : getD (store .counts) 0 0 < 2 ^ 16
+  pub slots-fit : slots (getD (store .counts) 0 0) ≤ length (store .slots)
+  pub counts-fit : 2 * 2 ^ height (getD (store .counts) 0 0) ≤ length (store .counts)
+
+-- The lines of the leaves are no longer than this: 11 bytes for each leaf and 16 for each slot.
+unfoldable pub leavesMost : Store → ℕ
+leavesMost store = 11 * (length (store .counts) / 2) + 16 * length (store .slots)
 
 -- The first j of k leaves are written, and there is room for the others.
 pub record LeavesWritten (store : Store) (s k : ℕ) (old : List ℕ) (at j : ℕ) (new : List ℕ) (next : ℕ) : Type 0 where

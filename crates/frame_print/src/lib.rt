@@ -1,14 +1,17 @@
 // The lines that answer a print: the sheet, leaf by leaf.
 use tree_sizes::Size;
 ghost use mathlib.Core.List.{[]};
-ghost use Prim.Native.Nat.{_+_, _*_, _<_, _≤_};
-ghost use lib.ListN.{length};
-ghost use Rattle.call_outcomes.specs.Call as call;
-ghost use Rattle.call_outcomes.specs.Outcome.{storeOf, outcome};
+ghost use Prim.Native.Nat.{_+_, _*_, _^_, _<_, _≤_};
+ghost use lib.ListN.{length, getD};
+ghost use Rattle.tree_sizes.specs.Sizes.{height};
+ghost use Rattle.call_outcomes.specs.Outcome.{outcome};
+ghost use Rattle.call_outcomes.specs.Plain as call;
+ghost use Rattle.call_outcomes.specs.Plain.{plain, storeOf};
+ghost use Rattle.call_outcomes.specs.Clubs.{clubs};
 ghost use Rattle.frame_replies.specs.Reply.{bytesOf, lineOf};
 ghost use Rattle.frame_replies.specs.Wrote.{Wrote};
 ghost use Rattle.frame_answers.specs.Step.{leafReply, leafReplies, sheetReplies, printLines, longest};
-ghost use Rattle.frame_print.specs.Printed.{PrintReady};
+ghost use Rattle.frame_print.specs.Printed.{PrintReady, leavesMost};
 
 // The line of leaf j, of s slots, whose range has the number first + j.
 fn print_leaf(
@@ -22,10 +25,11 @@ fn print_leaf(
 ) -> usize
     requires slots { ⌜ j * s + s ≤ length (now slots) ⌝ }
     requires counts { ⌜ first + j < length (now counts) ⌝ }
+    requires ranges { ⌜ 2 * 2 ^ height (getD (now counts) 0 0) ≤ length (now counts) ⌝ }
     requires room { ⌜ at + (11 + 16 * s) ≤ length (now output) ⌝ }
     ensures { λ r. ⌜ Wrote (now (output .entry)) at (lineOf (leafReply (storeOf (now (slots .entry)) (now (counts .entry))) s first j)) (now (output .exit)) r ⌝ }
 {
-    let count = counts[first + j] as u64;
+    let count = store_counts::range_count(counts, first + j) as u64;
     let from = j * s;
     let end = from + s;
     frame_replies::put_leaf(output, at, j as u64, count, &slots[from..end])
@@ -42,6 +46,7 @@ fn print_leaves(
 ) -> usize
     requires slots { ⌜ leaves * s ≤ length (now slots) ⌝ }
     requires counts { ⌜ 2 * leaves ≤ length (now counts) ⌝ }
+    requires ranges { ⌜ 2 * 2 ^ height (getD (now counts) 0 0) ≤ length (now counts) ⌝ }
     requires room { ⌜ at + leaves * (11 + 16 * s) ≤ length (now output) ⌝ }
     ensures { λ r. ⌜ Wrote (now (output .entry)) at (bytesOf (leafReplies (storeOf (now (slots .entry)) (now (counts .entry))) s leaves 0 leaves)) (now (output .exit)) r ⌝ }
 {
@@ -57,7 +62,7 @@ fn print_leaves(
 // The lines 90 and 91 of a sheet.
 fn print_sheet(slots: &[u64], counts: &[u16], output: &mut [u8], at: usize) -> usize
     requires sheet { ⌜ PrintReady (storeOf (now slots) (now counts)) ⌝ }
-    requires room { ⌜ at + 69003 ≤ length (now output) ⌝ }
+    requires room { ⌜ at + (11 + leavesMost (storeOf (now slots) (now counts))) ≤ length (now output) ⌝ }
     ensures { λ r. ⌜ Wrote (now (output .entry)) at (bytesOf (sheetReplies (storeOf (now (slots .entry)) (now (counts .entry))))) (now (output .exit)) r ⌝ }
 {
     let m = counts[0] as usize;
@@ -76,7 +81,7 @@ fn print_sheet(slots: &[u64], counts: &[u16], output: &mut [u8], at: usize) -> u
 pub fn print_line(slots: &[u64], counts: &[u16], output: &mut [u8]) -> usize
     requires { ⌜ longest ≤ length (now output) ⌝ }
     ensures { λ r. ⌜ Wrote (now (output .entry)) 0
-        (bytesOf (printLines (outcome call.clubs call.check [] (storeOf (now (slots .entry)) (now (counts .entry))) []) (storeOf (now (slots .entry)) (now (counts .entry)))))
+        (bytesOf (printLines (outcome (plain clubs) call.check [] (storeOf (now (slots .entry)) (now (counts .entry))) []) (storeOf (now (slots .entry)) (now (counts .entry)))))
         (now (output .exit)) r ⌝ }
 {
     let number = sheet_calls::check(slots, counts).returned().number;

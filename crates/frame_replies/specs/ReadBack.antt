@@ -62,9 +62,9 @@ EntriesFit list = Every (λ (e : ℕ). e < 2 ^ 64) list
 -- The three numbers of a `brief` fit their fields, and its line is not one of another form: the first byte is not one of a print, 90 or 91
 -- hexadecimal, and with 83 or 87 there is a cause.
 pub record BriefFits (first cause n : ℕ) : Type 0 where
-  pub first-fits : first < 256
-  pub cause-fits : cause < 256
-  pub n-fits : n < 65536
+  pub first-fits : first < 2 ^ 8
+  pub cause-fits : cause < 2 ^ 8
+  pub n-fits : n < 2 ^ 16
   pub no-sheet : first ≢ 144
   pub no-leaf : first ≢ 145
   pub refused-read : first ≡ 131 → cause ≢ 0
@@ -73,10 +73,10 @@ pub record BriefFits (first cause n : ℕ) : Type 0 where
 -- Each number fits its field.
 unfoldable pub Writable : Reply → Type 0
 Writable (brief first cause n) = BriefFits first cause n
-Writable (entries n list) = (n < 65536) × EntriesFit list
-Writable (placed n place points) = (n < 65536) × (place < 65536) × (points < 65536)
-Writable (sheet m n) = (m < 65536) × (n < 65536)
-Writable (leaf number count slots) = (number < 65536) × (count < 65536) × EntriesFit slots
+Writable (entries n list) = (n < 2 ^ 16) × EntriesFit list
+Writable (placed n place points) = (n < 2 ^ 16) × (place < 2 ^ 16) × (points < 2 ^ 16)
+Writable (sheet m n) = (m < 2 ^ 16) × (n < 2 ^ 16)
+Writable (leaf number count slots) = (number < 2 ^ 16) × (count < 2 ^ 16) × EntriesFit slots
 
 -- ---- a frame, written
 
@@ -106,11 +106,11 @@ WordsFit words = Every (λ (w : ℕ). w < 2 ^ 32) words
 
 -- Each number fits its field; a tape has 1 to 16 words, and counts them.
 unfoldable pub WritableFrame : Frame → List ℕ → Type 0
-WritableFrame (Insert rank entry) words = (rank < 65536) × (entry < 2 ^ 64)
-WritableFrame (Delete rank) words = rank < 65536
-WritableFrame (Read first last) words = (first < 65536) × (last < 65536)
+WritableFrame (Insert rank entry) words = (rank < 2 ^ 16) × (entry < 2 ^ 64)
+WritableFrame (Delete rank) words = rank < 2 ^ 16
+WritableFrame (Read first last) words = (first < 2 ^ 16) × (last < 2 ^ 16)
 WritableFrame (Tape count) words = (count ≡ length words) × (1 ≤ count) × (count ≤ 16) × WordsFit words
 WritableFrame Print words = Unit {0}
 WritableFrame Clear words = Unit {0}
-WritableFrame (Place rank) words = rank < 65536
+WritableFrame (Place rank) words = rank < 2 ^ 16
 WritableFrame NoFrame words = Unit {0}

@@ -29,7 +29,7 @@ module _ (first p a q b : ℕ) where
     unfolding front
     parted = simp append-assoc
 
-    first-back : first < 256 → field (front first p a q b ++ rest) 0 2 ≡ first
+    first-back : first < 2 ^ 8 → field (front first p a q b ++ rest) 0 2 ≡ first
     first-back fits = rw parted (field-first (digits p a ++ (digits q b ++ rest)) 2 first fits)
 
     second-back : a < 16 ^ p → field (front first p a q b ++ rest) 2 p ≡ a
@@ -45,7 +45,7 @@ module _ (first p a q b : ℕ) where
   whole : front first p a q b ++ [] ≡ front first p a q b
   whole = append-nil (front first p a q b)
 
-  first-alone : first < 256 → field (front first p a q b) 0 2 ≡ first
+  first-alone : first < 2 ^ 8 → field (front first p a q b) 0 2 ≡ first
   first-alone fits = rw whole at (first-back [] fits)
 
   second-alone : a < 16 ^ p → field (front first p a q b) 2 p ≡ a
@@ -95,14 +95,14 @@ module _ (first cause n : ℕ) where
       let k : field line 4 4 ≡ n = third-alone first 2 cause 4 n (w .n-fits) in
       rw (f, c) (brief-form w line ∙ rw (f, c, k))
 
-entries-line : (n : ℕ) (list : List ℕ) → n < 65536 → EntriesFit list → replyOf (header 2 131 0 n ++ entryDigits list) ≡ entries n list
+entries-line : (n : ℕ) (list : List ℕ) → n < 2 ^ 16 → EntriesFit list → replyOf (header 2 131 0 n ++ entryDigits list) ≡ entries n list
 unfolding replyOf replyFor acceptedOf entriesOf header front ifEq
 entries-line n list fits all =
     let rest = entryDigits list in
     ap₂ (λ (f c : ℕ). replyFor f c (header 2 131 0 n ++ rest)) (first-back 131 2 0 4 n rest (omega arith)) (second-back 131 2 0 4 n rest (omega arith))
     ∙ ap₂ entries (third-back 131 2 0 4 n rest fits) (all-back list (header 2 131 0 n) 8 (length-header 2 131 0 n) all)
 
-placed-line : (n place points : ℕ) → n < 65536 → place < 65536 → points < 65536
+placed-line : (n place points : ℕ) → n < 2 ^ 16 → place < 2 ^ 16 → points < 2 ^ 16
     → replyOf (header 2 135 0 n ++ (digits 4 place ++ digits 4 points)) ≡ placed n place points
 unfolding replyOf replyFor acceptedOf placedOf header front ifEq
 placed-line n place points fits place-fits points-fits =
@@ -116,14 +116,14 @@ placed-line n place points fits place-fits points-fits =
     ap₂ (λ (f c : ℕ). replyFor f c line) (first-back 135 2 0 4 n rest (omega arith)) (second-back 135 2 0 4 n rest (omega arith))
     ∙ rw (n-back, place-back, points-back)
 
-sheet-line : (m n : ℕ) → m < 65536 → n < 65536 → replyOf (header 4 144 m n) ≡ sheet m n
+sheet-line : (m n : ℕ) → m < 2 ^ 16 → n < 2 ^ 16 → replyOf (header 4 144 m n) ≡ sheet m n
 unfolding replyOf replyFor sheetOf header front ifEq
 sheet-line m n m-fits n-fits =
     let line = header 4 144 m n in
     ap (λ (f : ℕ). replyFor f (field line 2 2) line) (first-alone 144 4 m 4 n (omega arith))
     ∙ ap₂ sheet (second-alone 144 4 m 4 n m-fits) (third-alone 144 4 m 4 n n-fits)
 
-leaf-line : (number count : ℕ) (slots : List ℕ) → number < 65536 → count < 65536 → EntriesFit slots
+leaf-line : (number count : ℕ) (slots : List ℕ) → number < 2 ^ 16 → count < 2 ^ 16 → EntriesFit slots
     → replyOf (header 4 145 number count ++ entryDigits slots) ≡ leaf number count slots
 unfolding replyOf replyFor leafOf header front ifEq
 leaf-line number count slots number-fits count-fits all =
@@ -146,7 +146,7 @@ reply-back (leaf number count slots) w = leaf-line number count slots (w .0) (w 
 -- ---- a frame
 
 -- A line of a first byte and hexadecimal pairs is read by that byte.
-module _ (first : ℕ) (rest : List ℕ) (fits : first < 256) (pairs : length rest % 2 ≡ 0) (hex : allHex rest ≡ true) where
+module _ (first : ℕ) (rest : List ℕ) (fits : first < 2 ^ 8) (pairs : length rest % 2 ≡ 0) (hex : allHex rest ≡ true) where
   form-back : frameOf (digits 2 first ++ rest) ≡ formOf first (digits 2 first ++ rest)
   form-back =
       let line = digits 2 first ++ rest in
@@ -164,13 +164,13 @@ module _ (first p a q b : ℕ) where
   unfolding front
   length-two = length-append (digits 2 first) (digits p a ++ digits q b) ∙ rw (length-digits 2 first, length-rest)
 
-  two-form : first < 256 → (p + q) % 2 ≡ 0 → frameOf (front first p a q b) ≡ formOf first (front first p a q b)
+  two-form : first < 2 ^ 8 → (p + q) % 2 ≡ 0 → frameOf (front first p a q b) ≡ formOf first (front first p a q b)
   unfolding front
   two-form fits even =
       form-back first (digits p a ++ digits q b) fits (rw length-rest even)
       (hex-append (digits p a) (digits q b) (hex-digits p a) (hex-digits q b))
 
-insert-back : (rank entry : ℕ) → rank < 65536 → entry < 2 ^ 64 → frameOf (front 1 4 rank 16 entry) ≡ Insert rank entry
+insert-back : (rank entry : ℕ) → rank < 2 ^ 16 → entry < 2 ^ 64 → frameOf (front 1 4 rank 16 entry) ≡ Insert rank entry
 unfolding formOf insertOf ifEq
 insert-back rank entry rank-fits entry-fits =
     let line = front 1 4 rank 16 entry in
@@ -178,7 +178,7 @@ insert-back rank entry rank-fits entry-fits =
     ∙ length-is line 22 (Insert (field line 2 4) (field line 6 16)) (length-two 1 4 rank 16 entry)
     ∙ ap₂ Insert (second-alone 1 4 rank 16 entry rank-fits) (third-alone 1 4 rank 16 entry entry-fits)
 
-read-back : (first last : ℕ) → first < 65536 → last < 65536 → frameOf (front 3 4 first 4 last) ≡ Read first last
+read-back : (first last : ℕ) → first < 2 ^ 16 → last < 2 ^ 16 → frameOf (front 3 4 first 4 last) ≡ Read first last
 unfolding formOf readOf ifEq
 read-back first last first-fits last-fits =
     let line = front 3 4 first 4 last in
@@ -187,22 +187,22 @@ read-back first last first-fits last-fits =
     ∙ ap₂ Read (second-alone 3 4 first 4 last first-fits) (third-alone 3 4 first 4 last last-fits)
 
 -- One rank, as a delete and a place have it.
-module _ (first rank : ℕ) (fits : first < 256) where
+module _ (first rank : ℕ) (fits : first < 2 ^ 8) where
   one-form : frameOf (digits 2 first ++ digits 4 rank) ≡ formOf first (digits 2 first ++ digits 4 rank)
   one-form = form-back first (digits 4 rank) fits (rw (length-digits 4 rank)) (hex-digits 4 rank)
 
-  rank-back : rank < 65536 → (frame : ℕ → Frame)
+  rank-back : rank < 2 ^ 16 → (frame : ℕ → Frame)
       → ofLength (digits 2 first ++ digits 4 rank) 6 (frame (field (digits 2 first ++ digits 4 rank) 2 4)) ≡ frame rank
   rank-back rank-fits frame =
       let line = digits 2 first ++ digits 4 rank in
       let long : length line ≡ 6 = length-append (digits 2 first) (digits 4 rank) ∙ rw (length-digits 2 first, length-digits 4 rank) in
       length-is line 6 (frame (field line 2 4)) long ∙ ap frame (field-last (digits 2 first) 2 4 rank (length-digits 2 first) rank-fits)
 
-delete-back : (rank : ℕ) → rank < 65536 → frameOf (digits 2 2 ++ digits 4 rank) ≡ Delete rank
+delete-back : (rank : ℕ) → rank < 2 ^ 16 → frameOf (digits 2 2 ++ digits 4 rank) ≡ Delete rank
 unfolding formOf deleteOf ifEq
 delete-back rank fits = one-form 2 rank (omega arith) ∙ rank-back 2 rank (omega arith) fits Delete
 
-place-back : (rank : ℕ) → rank < 65536 → frameOf (digits 2 7 ++ digits 4 rank) ≡ Place rank
+place-back : (rank : ℕ) → rank < 2 ^ 16 → frameOf (digits 2 7 ++ digits 4 rank) ≡ Place rank
 unfolding formOf placeOf ifEq
 place-back rank fits = one-form 7 rank (omega arith) ∙ rank-back 7 rank (omega arith) fits Place
 

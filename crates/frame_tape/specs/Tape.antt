@@ -1,8 +1,12 @@
--- The tape after words are read off it, and the words that a tape line brings. Definitions only.
+-- The words of the tape that wait (document 01, "Frames"). Definitions only.
 use mathlib.Core.List.{List, [], _∷_, _++_}
 use Prim.Native.Nat.{ℕ, zero, suc}
 use lib.ListN.{drop, replicate}
 use Rattle.frame_lines.specs.Frame.{wordAt}
+
+-- At most so many words wait.
+abbrev pub mostWaiting : ℕ
+mostWaiting = 1024
 
 -- The tape after a number of its words are read: these leave it, the others move to its front, and zeros follow them.
 unfoldable pub readOff : ℕ → List ℕ → List ℕ

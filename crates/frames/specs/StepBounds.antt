@@ -1,4 +1,4 @@
--- Bounds of a step: its answer lies within the output, and no more than 1,024 words wait after it.
+-- Bounds of a step: its answer lies within the output, and no more words wait after it than may.
 use mathlib.Core.Path.{_≡_}
 use mathlib.Core.List.{List}
 use Prim.Native.Nat.{ℕ, _+_, _≤_}
@@ -8,6 +8,7 @@ use Rattle.base.specs.CaseLaws.{by-eq, by-lt}
 use Rattle.frame_lines.specs.declared.Frame.{Frame}
 use Rattle.frame_lines.specs.declared.Frame.the-variants.{Insert, Delete, Read, Tape, Print, Clear, Place, NoFrame}
 use Rattle.frame_lines.specs.Frame.{frameOf}
+use Rattle.frame_tape.specs.Tape.{mostWaiting}
 use Rattle.frame_replies.specs.Reply.{bytesOf}
 use Rattle.frame_answers.specs.Step.{Kept, Answered, Step, keeping, changedBy, changed, cleared, taped, answerTo, handed, stepOf}
 
@@ -32,7 +33,7 @@ step-within line k output =
 -- ---- the words that wait
 
 Few : Kept → Type 0
-Few k = k .waiting ≤ 1024
+Few k = k .waiting ≤ mostWaiting
 
 few-answered : (frame : Frame) (line : List ℕ) (k : Kept) → Few k → Few (answerTo frame line k .kept)
 unfolding Few answerTo changed changedBy keeping cleared taped
@@ -40,18 +41,18 @@ few-answered (Insert rank entry) line k l = omega arith
 few-answered (Delete rank) line k l = omega arith
 few-answered (Read first last) line k l = l
 few-answered (Tape words) line k l =
-    by-lt (λ (a : Answered). a .kept .waiting ≤ 1024) 1024 (k .waiting + words) _ _ (λ _. l) (λ h. h)
+    by-lt (λ (a : Answered). a .kept .waiting ≤ mostWaiting) mostWaiting (k .waiting + words) _ _ (λ _. l) (λ h. h)
 few-answered Print line k l = l
 few-answered Clear line k l = l
 few-answered (Place rank) line k l = l
 few-answered NoFrame line k l = l
 
-step-few : (line : List ℕ) (k : Kept) (output : List ℕ) → k .waiting ≤ 1024 → stepOf line k output .kept .waiting ≤ 1024
+step-few : (line : List ℕ) (k : Kept) (output : List ℕ) → k .waiting ≤ mostWaiting → stepOf line k output .kept .waiting ≤ mostWaiting
 unfolding Few stepOf handed
 step-few line k output l =
-    by-lt (λ (s : Step). s .kept .waiting ≤ 1024) _ _ _ _ (λ _. l)
-    (λ _. by-eq (λ (s : Step). s .kept .waiting ≤ 1024) _ _ _ _
-    (λ _. by-lt (λ (s : Step). s .kept .waiting ≤ 1024) _ _ _ _ (λ _. l) (λ _. few-answered (frameOf line) line k l))
+    by-lt (λ (s : Step). s .kept .waiting ≤ mostWaiting) _ _ _ _ (λ _. l)
+    (λ _. by-eq (λ (s : Step). s .kept .waiting ≤ mostWaiting) _ _ _ _
+    (λ _. by-lt (λ (s : Step). s .kept .waiting ≤ mostWaiting) _ _ _ _ (λ _. l) (λ _. few-answered (frameOf line) line k l))
     (λ _. l))
 
 -- ---- the same, of what the code of a step returns and leaves
@@ -62,5 +63,5 @@ module _ (bytes : ℕ) (kept : Kept) (output′ line : List ℕ) (k : Kept) (out
   unfolding Within
   bytes-within = rw (← e) at (step-within line k output)
 
-  pub waiting-within : k .waiting ≤ 1024 → kept .waiting ≤ 1024
+  pub waiting-within : k .waiting ≤ mostWaiting → kept .waiting ≤ mostWaiting
   waiting-within l = rw (← e) at (step-few line k output l)

@@ -1,7 +1,7 @@
 // The frames of the program: one step on a line, and the reading of a line for programs in C.
 use frame_answers::Stepped;
 ghost use mathlib.Core.Path.{_≡_};
-ghost use Rattle.call_outcomes.specs.Outcome.{storeOf};
+ghost use Rattle.call_outcomes.specs.Plain.{storeOf};
 ghost use Rattle.frame_lines.specs.Frame.{kindOf};
 ghost use Rattle.frame_answers.specs.Step.{stepOf};
 ghost use Rattle.frame_answers.specs.Gives.{keptOf};

@@ -9,6 +9,8 @@ use Rattle.draw.specs.Draw.{drawAt, tapePlaceAfter}
 use Rattle.draw_shares.specs.Program.{Program, done, draw}
 use Rattle.tree_sizes.specs.Sizes.{digits, height, slots, candidates, windowStart}
 use Rattle.tree_rules.specs.Rules.{SizeStep, kept, anew, deleteSize}
+use Rattle.call_outcomes.specs.Clubs.{clubs}
+use Rattle.frame_tape.specs.Tape.{mostWaiting}
 use Rattle.frame_answers.specs.Step.{Kept, answersTo}
 use Rattle.review_marks.specs.Text.{bytes, ended}
 
@@ -51,7 +53,7 @@ byRules (deleteAmong N M) = among (deleteSize N M)
 
 -- The program as it starts: a cleared sheet, and no word waits.
 unfoldable pub started : Kept
-started = record { store = record { slots = replicate 4224 0; counts = replicate 256 0 }; tape = replicate 1024 0; waiting = 0 }
+started = record { store = record { slots = replicate (clubs .slots) 0; counts = replicate (clubs .counts) 0 }; tape = replicate mostWaiting 0; waiting = 0 }
 
 -- A case: what it names and its value, or lines and the lines that the program answers them by, as document 01 writes them.
 infix 70 _is_ _answeredBy_

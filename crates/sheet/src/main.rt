@@ -2,12 +2,28 @@
 ghost use Prim.Native.Nat.{_+_, _<_, _≤_};
 ghost use lib.ListN.{length};
 ghost use Rattle.frame_answers.specs.Step.{longest};
-ghost use Rattle.sheet.specs.Held.{Held};
+ghost use Rattle.frame_tape.specs.Tape.{mostWaiting};
+ghost use Rattle.sheet.specs.Held.{lineRoom, outputRoom, Held};
 use frame_answers::Stepped;
 use frame_input::Collected;
 
 // The longest answer, a print of the largest sheet, has so many bytes.
 const LONGEST: usize = 69012;
+
+// The slots of the store.
+const SLOTS: usize = 4224;
+
+// The counts of the store.
+const COUNTS: usize = 256;
+
+// The words of the tape that may wait.
+const TAPE: usize = 1024;
+
+// The line buffer has room for so many bytes.
+const LINE: usize = 256;
+
+// The input has room for so many bytes.
+const INPUT: usize = 65536;
 
 // The output has room for so many bytes.
 const OUTPUT: usize = 262144;
@@ -52,7 +68,7 @@ fn flush(output: &[u8], state: State) -> State
 // Writes the answers that are held if the longest one might not fit behind them.
 fn make_room(output: &[u8; OUTPUT], state: State) -> State
     requires { ⌜ Held state ⌝ }
-    ensures { λ r. ⌜ Held r × (r .at + longest ≤ 262144) ⌝ }
+    ensures { λ r. ⌜ Held r × (r .at + longest ≤ outputRoom) ⌝ }
 {
     if OUTPUT - state.at < LONGEST {
         return flush(output, state);
@@ -64,17 +80,17 @@ fn make_room(output: &[u8; OUTPUT], state: State) -> State
 fn step(
     line: &[u8],
     have: usize,
-    slots: &mut [u64; 4224],
-    counts: &mut [u16; 256],
-    tape: &mut [u32; 1024],
+    slots: &mut [u64; SLOTS],
+    counts: &mut [u16; COUNTS],
+    tape: &mut [u32; TAPE],
     waiting: usize,
     output: &mut [u8],
     at: usize,
 ) -> Stepped
     requires line { ⌜ have ≤ length (now line) ⌝ }
-    requires words { ⌜ waiting ≤ 1024 ⌝ }
+    requires words { ⌜ waiting ≤ mostWaiting ⌝ }
     requires room { ⌜ at + longest ≤ length (now output) ⌝ }
-    ensures { λ r. ⌜ (at + r .bytes ≤ length (now (output .entry))) × (r .waiting ≤ 1024) ⌝ }
+    ensures { λ r. ⌜ (at + r .bytes ≤ length (now (output .entry))) × (r .waiting ≤ mostWaiting) ⌝ }
 {
     frames::step(
         &line[..have],
@@ -89,14 +105,14 @@ fn step(
 // Answers the line that was collected, if it has ended and no write has failed.
 fn answer(
     collected: Collected,
-    line: &[u8; 256],
-    slots: &mut [u64; 4224],
-    counts: &mut [u16; 256],
-    tape: &mut [u32; 1024],
+    line: &[u8; LINE],
+    slots: &mut [u64; SLOTS],
+    counts: &mut [u16; COUNTS],
+    tape: &mut [u32; TAPE],
     output: &mut [u8; OUTPUT],
     state: State,
 ) -> State
-    requires collected { ⌜ collected .have ≤ 256 ⌝ }
+    requires collected { ⌜ collected .have ≤ lineRoom ⌝ }
     requires held { ⌜ Held state ⌝ }
     ensures { λ r. ⌜ Held r ⌝ }
 {
@@ -127,10 +143,10 @@ fn answer(
 fn answer_chunk(
     input: &[u8],
     n: usize,
-    line: &mut [u8; 256],
-    slots: &mut [u64; 4224],
-    counts: &mut [u16; 256],
-    tape: &mut [u32; 1024],
+    line: &mut [u8; LINE],
+    slots: &mut [u64; SLOTS],
+    counts: &mut [u16; COUNTS],
+    tape: &mut [u32; TAPE],
     output: &mut [u8; OUTPUT],
     before: State,
 ) -> State
@@ -188,11 +204,11 @@ fn turns_left(turns: u64, last: bool, failed: bool) -> u64
 // Answers every line of the input, and stops where a write has failed. The answers to a chunk are written before the next one is read. A
 // proved loop has to end, so this one counts its turns down, from a number that no run uses up.
 fn run(
-    slots: &mut [u64; 4224],
-    counts: &mut [u16; 256],
-    tape: &mut [u32; 1024],
-    line: &mut [u8; 256],
-    input: &mut [u8; 65536],
+    slots: &mut [u64; SLOTS],
+    counts: &mut [u16; COUNTS],
+    tape: &mut [u32; TAPE],
+    line: &mut [u8; LINE],
+    input: &mut [u8; INPUT],
     output: &mut [u8; OUTPUT],
 ) {
     let mut state = State {
@@ -211,11 +227,11 @@ fn run(
 
 // A store of zeros is the empty sheet, and no word of the tape waits.
 fn main() {
-    let mut slots = [0u64; 4224];
-    let mut counts = [0u16; 256];
-    let mut tape = [0u32; 1024];
-    let mut line = [0u8; 256];
-    let mut input = [0u8; 65536];
+    let mut slots = [0u64; SLOTS];
+    let mut counts = [0u16; COUNTS];
+    let mut tape = [0u32; TAPE];
+    let mut line = [0u8; LINE];
+    let mut input = [0u8; INPUT];
     let mut output = [0u8; OUTPUT];
     run(
         &mut slots,

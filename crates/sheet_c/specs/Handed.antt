@@ -5,8 +5,10 @@ use lib.ListN.{length, set}
 use Rattle.base.specs.Cases.{ifLt}
 use Rattle.store_layout.specs.Layout.{Store}
 use Rattle.call_outcomes.specs.declared.Returned.{Returned}
-use Rattle.call_outcomes.specs.Call.{Call, returned, clubs}
+use Rattle.call_outcomes.specs.Returns.{returned}
 use Rattle.call_outcomes.specs.Outcome.{Outcome, outcome}
+use Rattle.call_outcomes.specs.Plain.{plain, Call}
+use Rattle.call_outcomes.specs.Clubs.{clubs}
 
 pub record Handed : Type 0 where
   pub number : ℕ
@@ -19,7 +21,7 @@ unfoldable pub filled : Returned → List ℕ → List ℕ
 filled back answer = set (set answer 0 (back .first)) 1 (back .second)
 
 -- The outcome of a call, handed over in an answer slice.
-unfoldable pub handedBy : Outcome → List ℕ → Handed
+unfoldable pub handedBy : Outcome Store → List ℕ → Handed
 handedBy o answer = record {
   number = returned (o .answer) .number;
   store = o .store;
@@ -31,4 +33,4 @@ handedBy o answer = record {
 unfoldable pub handed : Call → List ℕ → Store → List ℕ → List ℕ → Handed
 handed call tape store output answer =
     ifLt (length answer) 2 (record { number = 255; store = store; output = output; answer = answer })
-    (handedBy (outcome clubs call tape store output) answer)
+    (handedBy (outcome (plain clubs) call tape store output) answer)

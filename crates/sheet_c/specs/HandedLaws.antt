@@ -6,8 +6,10 @@ use lib.ListN.{length}
 use Rattle.base.specs.CaseLaws.{ifLt-yes, ifLt-no}
 use Rattle.call_outcomes.specs.declared.Returned.{Returned}
 use Rattle.call_outcomes.specs.declared.Answer.{Answer}
-use Rattle.call_outcomes.specs.Call.{Call, returned, clubs}
-use Rattle.call_outcomes.specs.Outcome.{storeOf, outcomeOf, outcome}
+use Rattle.call_outcomes.specs.Returns.{returned}
+use Rattle.call_outcomes.specs.Outcome.{outcome}
+use Rattle.call_outcomes.specs.Plain.{plain, Call, storeOf, outcomeOf}
+use Rattle.call_outcomes.specs.Clubs.{clubs}
 use Rattle.sheet_c.specs.Handed.{filled, handedBy, handed}
 
 module _ (call : Call) (tape slots counts output answer : List ℕ) where
@@ -20,11 +22,11 @@ module _ (call : Call) (tape slots counts output answer : List ℕ) where
 
   -- an answer slice with room
   pub handed-done : 2 ≤ length answer → (given : Answer) (slots′ counts′ output′ : List ℕ)
-      → outcomeOf given slots′ counts′ output′ ≡ outcome clubs call tape (storeOf slots counts) output
+      → outcomeOf given slots′ counts′ output′ ≡ outcome (plain clubs) call tape (storeOf slots counts) output
       → (back : Returned) → back ≡ returned given
       → (r : ℕ) (answer′ : List ℕ) → (r ≡ back .number) × (answer′ ≡ filled back answer)
       → record { number = r; store = storeOf slots′ counts′; output = output′; answer = answer′ }
       ≡ handed call tape (storeOf slots counts) output answer
   unfolding handed handedBy
   handed-done l given slots′ counts′ output′ o back b r answer′ h =
-      rw (h .0, h .1, ifLt-no (length answer) 2 _ (handedBy (outcome clubs call tape (storeOf slots counts) output) answer) l, ← o, b)
+      rw (h .0, h .1, ifLt-no (length answer) 2 _ (handedBy (outcome (plain clubs) call tape (storeOf slots counts) output) answer) l, ← o, b)

@@ -3,8 +3,9 @@ ghost use mathlib.Core.Path.{_≡_};
 ghost use mathlib.Core.List.{[]};
 ghost use Prim.Native.Nat.{_≤_};
 ghost use lib.ListN.{length};
-ghost use Rattle.call_outcomes.specs.Call as call;
-ghost use Rattle.call_outcomes.specs.Outcome.{storeOf};
+ghost use Rattle.call_outcomes.specs.Kind.{clear};
+ghost use Rattle.call_outcomes.specs.Plain as call;
+ghost use Rattle.call_outcomes.specs.Plain.{storeOf};
 ghost use Rattle.sheet_c.specs.Handed.{filled, handed};
 use call_outcomes::Returned;
 use tree_rules::Change;
@@ -23,7 +24,7 @@ fn hand(back: Returned, answer: &mut [u64]) -> usize
 #[no_mangle]
 pub extern "C" fn sheet_clear(slots: &mut [u64], counts: &mut [u16], answer: &mut [u64]) -> usize
     ensures { λ r. ⌜ record { number = r; store = storeOf (now (slots .exit)) (now (counts .exit)); output = []; answer = now (answer .exit) }
-        ≡ handed call.clear [] (storeOf (now (slots .entry)) (now (counts .entry))) [] (now (answer .entry)) ⌝ }
+        ≡ handed clear [] (storeOf (now (slots .entry)) (now (counts .entry))) [] (now (answer .entry)) ⌝ }
 {
     if answer.len() < 2 {
         return 255;

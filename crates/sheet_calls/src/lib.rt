@@ -1,28 +1,43 @@
-// The packed finishing sheet: six calls on a store of two lent slices.
+// The clubs' packed finishing sheet: six calls on a store of two lent slices.
 ghost use mathlib.Core.Path.{_≡_};
 ghost use mathlib.Core.List.{[]};
 ghost use lib.ListN.{length};
-ghost use Rattle.call_outcomes.specs.Call as call;
-ghost use Rattle.call_outcomes.specs.Outcome.{storeOf, outcomeOf, outcome};
+ghost use Rattle.call_outcomes.specs.Kind.{clear};
+ghost use Rattle.call_outcomes.specs.Outcome.{outcome};
+ghost use Rattle.call_outcomes.specs.Plain as call;
+ghost use Rattle.call_outcomes.specs.Plain.{plain, storeOf, outcomeOf};
+ghost use Rattle.call_outcomes.specs.Clubs.{clubs};
 use call_open::Opened;
 use call_outcomes::Answer;
 use call_outcomes::Cause;
+use store_layout::Capacity;
 use tree_rules::Change;
+
+// What the clubs' store has room for.
+fn capacity() -> Capacity
+    ensures { λ r. ⌜ r ≡ clubs ⌝ }
+{
+    Capacity {
+        entries: 1024,
+        slots: 4224,
+        counts: 256,
+    }
+}
 
 // Makes any contents the empty sheet.
 pub fn clear(slots: &mut [u64], counts: &mut [u16]) -> Answer
     ensures { λ r. ⌜ outcomeOf r (now (slots .exit)) (now (counts .exit)) []
-        ≡ outcome call.clubs call.clear [] (storeOf (now (slots .entry)) (now (counts .entry))) [] ⌝ }
+        ≡ outcome (plain clubs) clear [] (storeOf (now (slots .entry)) (now (counts .entry))) [] ⌝ }
 {
-    if slots.len() != 4224 {
+    let cap = capacity();
+    if slots.len() != cap.slots {
         return Answer::Refused(Cause::Lengths);
     }
-    if counts.len() != 256 {
+    if counts.len() != cap.counts {
         return Answer::Refused(Cause::Lengths);
     }
-    let zeros = [0u32; 256];
-    store_slices::zero_slots(slots, 0, 4224);
-    store_slices::narrow(&zeros, counts);
+    store_slices::zero_slots(slots, 0, cap.slots);
+    store_counts::zero_counts(counts);
     Answer::Cleared
 }
 
@@ -35,14 +50,25 @@ pub fn make_change(
     tape: &[u32],
 ) -> Answer
     ensures { λ r. ⌜ outcomeOf r (now (slots .exit)) (now (counts .exit)) []
-        ≡ outcome call.clubs (call.changing change entry) (now (tape .entry)) (storeOf (now (slots .entry)) (now (counts .entry))) [] ⌝ }
+        ≡ outcome (plain clubs) (call.changing change entry) (now (tape .entry)) (storeOf (now (slots .entry)) (now (counts .entry))) [] ⌝ }
 {
+    let cap = capacity();
     let mut work = [0u32; 256];
-    let opened = call_open::examine(slots, counts, &mut work);
-    match call_open::admit_change(opened, change, entry) {
-        Opened::Sheet { n, m } => {
-            call_change::change(slots, counts, &mut work, n, m, change, entry, tape)
-        }
+    let mut list = [0u64; 1025];
+    let opened = call_open::examine(cap, slots, counts, &mut work);
+    match call_open::admit_change(opened, cap.entries, change, entry) {
+        Opened::Sheet { n, m } => call_change::change(
+            cap,
+            slots,
+            counts,
+            &mut work,
+            &mut list,
+            n,
+            m,
+            change,
+            entry,
+            tape,
+        ),
         Opened::Refused(cause) => Answer::Refused(cause),
     }
 }
@@ -56,7 +82,7 @@ pub fn insert(
     tape: &[u32],
 ) -> Answer
     ensures { λ r. ⌜ outcomeOf r (now (slots .exit)) (now (counts .exit)) []
-        ≡ outcome call.clubs (call.insert rank entry) (now (tape .entry)) (storeOf (now (slots .entry)) (now (counts .entry))) [] ⌝ }
+        ≡ outcome (plain clubs) (call.insert rank entry) (now (tape .entry)) (storeOf (now (slots .entry)) (now (counts .entry))) [] ⌝ }
 {
     make_change(slots, counts, Change::Insert(rank), entry, tape)
 }
@@ -64,7 +90,7 @@ pub fn insert(
 // Takes the entry at the rank out.
 pub fn delete(slots: &mut [u64], counts: &mut [u16], rank: usize, tape: &[u32]) -> Answer
     ensures { λ r. ⌜ outcomeOf r (now (slots .exit)) (now (counts .exit)) []
-        ≡ outcome call.clubs (call.delete rank) (now (tape .entry)) (storeOf (now (slots .entry)) (now (counts .entry))) [] ⌝ }
+        ≡ outcome (plain clubs) (call.delete rank) (now (tape .entry)) (storeOf (now (slots .entry)) (now (counts .entry))) [] ⌝ }
 {
     make_change(slots, counts, Change::Delete(rank), 0, tape)
 }
@@ -72,10 +98,10 @@ pub fn delete(slots: &mut [u64], counts: &mut [u16], rank: usize, tape: &[u32]) 
 // Copies the entries of ranks first to last to the front of the output.
 pub fn read(slots: &[u64], counts: &[u16], first: usize, last: usize, output: &mut [u64]) -> Answer
     ensures { λ r. ⌜ outcomeOf r (now (slots .entry)) (now (counts .entry)) (now (output .exit))
-        ≡ outcome call.clubs (call.read first last (length (now (output .entry)))) [] (storeOf (now (slots .entry)) (now (counts .entry))) (now (output .entry)) ⌝ }
+        ≡ outcome (plain clubs) (call.read first last (length (now (output .entry)))) [] (storeOf (now (slots .entry)) (now (counts .entry))) (now (output .entry)) ⌝ }
 {
     let mut work = [0u32; 256];
-    let opened = call_open::examine(slots, counts, &mut work);
+    let opened = call_open::examine(capacity(), slots, counts, &mut work);
     match call_open::admit_read(opened, first, last, output.len()) {
         Opened::Sheet { n: _, m: _ } => {
             let count = last - first + 1;
@@ -89,10 +115,10 @@ pub fn read(slots: &[u64], counts: &[u16], first: usize, last: usize, output: &m
 // The place of the entry at the rank, and its points.
 pub fn place(slots: &[u64], counts: &[u16], rank: usize) -> Answer
     ensures { λ r. ⌜ outcomeOf r (now (slots .entry)) (now (counts .entry)) []
-        ≡ outcome call.clubs (call.place rank) [] (storeOf (now (slots .entry)) (now (counts .entry))) [] ⌝ }
+        ≡ outcome (plain clubs) (call.place rank) [] (storeOf (now (slots .entry)) (now (counts .entry))) [] ⌝ }
 {
     let mut work = [0u32; 256];
-    let opened = call_open::examine(slots, counts, &mut work);
+    let opened = call_open::examine(capacity(), slots, counts, &mut work);
     match call_open::admit_rank(opened, rank) {
         Opened::Sheet { n: _, m: _ } => {
             let number = rank + 1;
@@ -108,10 +134,10 @@ pub fn place(slots: &[u64], counts: &[u16], rank: usize) -> Answer
 // The number of entries of a sheet.
 pub fn check(slots: &[u64], counts: &[u16]) -> Answer
     ensures { λ r. ⌜ outcomeOf r (now (slots .entry)) (now (counts .entry)) []
-        ≡ outcome call.clubs call.check [] (storeOf (now (slots .entry)) (now (counts .entry))) [] ⌝ }
+        ≡ outcome (plain clubs) call.check [] (storeOf (now (slots .entry)) (now (counts .entry))) [] ⌝ }
 {
     let mut work = [0u32; 256];
-    match call_open::examine(slots, counts, &mut work) {
+    match call_open::examine(capacity(), slots, counts, &mut work) {
         Opened::Sheet { n, m: _ } => Answer::Checked { n: n },
         Opened::Refused(cause) => Answer::Refused(cause),
     }

@@ -1,6 +1,12 @@
 // Makes each of the six calls and meets each of the causes 1 to 7, and prints what each call returns: the number and two values.
 use call_outcomes::Answer;
 
+// The slots of the store.
+const SLOTS: usize = 4224;
+
+// The counts of the store.
+const COUNTS: usize = 256;
+
 // Prints a line: the name of a call, the number and the two values that it returned.
 fn show(name: &[u8], answer: Answer) {
     let back = answer.returned();
@@ -14,41 +20,47 @@ fn show(name: &[u8], answer: Answer) {
     io::write_all(1, b"\n");
 }
 
-fn clear(slots: &mut [u64], counts: &mut [u16; 256]) {
+fn clear(slots: &mut [u64], counts: &mut [u16; COUNTS]) {
     show(b"clear", sheet_calls::clear(slots, counts));
 }
 
-fn insert(slots: &mut [u64; 4224], counts: &mut [u16; 256], rank: usize, entry: u64, tape: &[u32]) {
+fn insert(
+    slots: &mut [u64; SLOTS],
+    counts: &mut [u16; COUNTS],
+    rank: usize,
+    entry: u64,
+    tape: &[u32],
+) {
     show(
         b"insert",
         sheet_calls::insert(slots, counts, rank, entry, tape),
     );
 }
 
-fn delete(slots: &mut [u64; 4224], counts: &mut [u16; 256], rank: usize, tape: &[u32]) {
+fn delete(slots: &mut [u64; SLOTS], counts: &mut [u16; COUNTS], rank: usize, tape: &[u32]) {
     show(b"delete", sheet_calls::delete(slots, counts, rank, tape));
 }
 
-fn read(slots: &[u64; 4224], counts: &[u16; 256], last: usize, output: &mut [u64]) {
+fn read(slots: &[u64; SLOTS], counts: &[u16; COUNTS], last: usize, output: &mut [u64]) {
     show(b"read", sheet_calls::read(slots, counts, 0, last, output));
 }
 
-fn place(slots: &[u64; 4224], counts: &[u16; 256], rank: usize) {
+fn place(slots: &[u64; SLOTS], counts: &[u16; COUNTS], rank: usize) {
     show(b"place", sheet_calls::place(slots, counts, rank));
 }
 
-fn check(slots: &[u64; 4224], counts: &[u16; 256]) {
+fn check(slots: &[u64; SLOTS], counts: &[u16; COUNTS]) {
     show(b"check", sheet_calls::check(slots, counts));
 }
 
 // A store that is too short (cause 1).
-fn lengths(counts: &mut [u16; 256]) {
+fn lengths(counts: &mut [u16; COUNTS]) {
     let mut short = [7u64; 2];
     clear(&mut short, counts);
 }
 
 // On a store that is no sheet only clear is accepted (cause 2).
-fn start(slots: &mut [u64; 4224], counts: &mut [u16; 256], tape: &[u32]) {
+fn start(slots: &mut [u64; SLOTS], counts: &mut [u16; COUNTS], tape: &[u32]) {
     check(slots, counts);
     insert(slots, counts, 0, 7, tape);
     clear(slots, counts);
@@ -56,14 +68,14 @@ fn start(slots: &mut [u64; 4224], counts: &mut [u16; 256], tape: &[u32]) {
 }
 
 // Entry 0 (cause 3), which decides before the rank, and ranks that are too high (cause 4).
-fn ranks(slots: &mut [u64; 4224], counts: &mut [u16; 256], tape: &[u32]) {
+fn ranks(slots: &mut [u64; SLOTS], counts: &mut [u16; COUNTS], tape: &[u32]) {
     insert(slots, counts, 9, 0, tape);
     insert(slots, counts, 9, 7, tape);
     delete(slots, counts, 0, tape);
 }
 
 // The first entry needs no word; the second does (cause 7).
-fn words(slots: &mut [u64; 4224], counts: &mut [u16; 256], tape: &[u32]) {
+fn words(slots: &mut [u64; SLOTS], counts: &mut [u16; COUNTS], tape: &[u32]) {
     let no_tape = [0u32; 0];
     insert(slots, counts, 0, 7, &no_tape);
     insert(slots, counts, 1, 8, &no_tape);
@@ -79,7 +91,7 @@ fn show_entries(first: u64, second: u64) {
 }
 
 // Places, and reading two entries, past the end (cause 4), and into an output that is too short (cause 6).
-fn questions(slots: &[u64; 4224], counts: &[u16; 256]) {
+fn questions(slots: &[u64; SLOTS], counts: &[u16; COUNTS]) {
     let mut output = [0u64; 2];
     let mut short = [0u64; 1];
     place(slots, counts, 1);
@@ -91,7 +103,7 @@ fn questions(slots: &[u64; 4224], counts: &[u16; 256]) {
 }
 
 // Inserts entries at the front until 1,024 stand.
-fn fill(slots: &mut [u64; 4224], counts: &mut [u16; 256], tape: &[u32]) {
+fn fill(slots: &mut [u64; SLOTS], counts: &mut [u16; COUNTS], tape: &[u32]) {
     let mut entry = 3u64;
     while entry <= 1024 {
         sheet_calls::insert(slots, counts, 0, entry, tape);
@@ -100,7 +112,7 @@ fn fill(slots: &mut [u64; 4224], counts: &mut [u16; 256], tape: &[u32]) {
 }
 
 // A full sheet takes no entry (cause 5).
-fn full(slots: &mut [u64; 4224], counts: &mut [u16; 256], tape: &[u32]) {
+fn full(slots: &mut [u64; SLOTS], counts: &mut [u16; COUNTS], tape: &[u32]) {
     fill(slots, counts, tape);
     check(slots, counts);
     insert(slots, counts, 0, 9, tape);
@@ -109,7 +121,7 @@ fn full(slots: &mut [u64; 4224], counts: &mut [u16; 256], tape: &[u32]) {
 }
 
 // The calls, one after the other, on one store.
-fn calls(slots: &mut [u64; 4224], counts: &mut [u16; 256], tape: &[u32]) {
+fn calls(slots: &mut [u64; SLOTS], counts: &mut [u16; COUNTS], tape: &[u32]) {
     lengths(counts);
     start(slots, counts, tape);
     ranks(slots, counts, tape);
@@ -119,8 +131,8 @@ fn calls(slots: &mut [u64; 4224], counts: &mut [u16; 256], tape: &[u32]) {
 }
 
 fn main() {
-    let mut slots = [7u64; 4224];
-    let mut counts = [7u16; 256];
+    let mut slots = [7u64; SLOTS];
+    let mut counts = [7u16; COUNTS];
     let tape = [0u32; 2048];
     calls(&mut slots, &mut counts, &tape);
 }

@@ -6,10 +6,12 @@ use Rattle.base.specs.Cases.{ifLe}
 use Rattle.base.specs.Lists.{equalLists}
 use Rattle.tree_sizes.specs.Sizes.{doublings, digits, height, leafSlots}
 use Rattle.tree_rules.specs.Tree.{leaf}
-use Rattle.tree_counts.specs.Counts.{writeTree, readTree, shapeCounts}
-use Rattle.store_layout.specs.Leaf.{slotOf, place, spread, nonzero}
-use Rattle.store_layout.specs.Layout.{Capacity, leafCounts, layLeaves, padTo, countOrder, laySlots, layCounts, layOut}
-use Rattle.store_layout.specs.Sheet.{listOf, shapeOf, balancedTest, shapeTest, sheetTest, decode}
+use Rattle.tree_counts.specs.Counts.{writeTree, readTree, shapeCounts, shapeIn}
+use Rattle.store_layout.specs.Leaf.{slotOf, putEntries, spread, nonzero}
+use Rattle.store_layout.specs.declared.Capacity.{Capacity}
+use Rattle.store_layout.specs.Layout.{leafCounts, layLeaves, padTo, laySlots, layCounts, layOut}
+use Rattle.store_layout.specs.CountOrder.{countPlace, rangeAt, pick, reorder, countOrder, numberOrder}
+use Rattle.store_layout.specs.Decode.{numbered, listOf, shapeOf, balancedTest, shapeTest, sheetTest, decode}
 
 tiny : Capacity
 tiny = record { entries = 3; slots = 6; counts = 4 }
@@ -17,15 +19,15 @@ tiny = record { entries = 3; slots = 6; counts = 4 }
 -- the sheet that document 01 prints: entries A and B, M = 3
 printed : layOut tiny (0xA ∷ 0xB ∷ []) (record { size = 3; tree = leaf })
     ≡ record { slots = 0xA ∷ 0xB ∷ 0 ∷ 0 ∷ 0 ∷ 0 ∷ []; counts = 3 ∷ 2 ∷ 0 ∷ 0 ∷ [] }
-unfolding tiny layOut laySlots layCounts padTo layLeaves leafCounts spread place slotOf leafSlots height digits doublings countOrder shapeCounts writeTree ifLe
+unfolding tiny layOut laySlots layCounts padTo layLeaves leafCounts spread putEntries slotOf leafSlots height digits doublings countOrder reorder pick rangeAt shapeCounts writeTree ifLe
 printed = refl
 
 read-back : decode tiny (record { slots = 0xA ∷ 0xB ∷ 0 ∷ 0 ∷ 0 ∷ 0 ∷ []; counts = 3 ∷ 2 ∷ 0 ∷ 0 ∷ [] })
     ≡ some (record { list = 0xA ∷ 0xB ∷ []; shape = record { size = 3; tree = leaf } })
-unfolding tiny decode sheetTest shapeTest balancedTest shapeOf listOf nonzero readTree equalLists layOut laySlots layCounts padTo layLeaves leafCounts spread place slotOf leafSlots height digits doublings countOrder shapeCounts writeTree ifLe
+unfolding tiny decode sheetTest shapeTest balancedTest shapeOf shapeIn numbered numberOrder countPlace listOf nonzero readTree equalLists layOut laySlots layCounts padTo layLeaves leafCounts spread putEntries slotOf leafSlots height digits doublings countOrder reorder pick rangeAt shapeCounts writeTree ifLe
 read-back = refl
 
 -- an old entry in a gap
 gap : decode tiny (record { slots = 0xA ∷ 0xB ∷ 0 ∷ 7 ∷ 0 ∷ 0 ∷ []; counts = 3 ∷ 2 ∷ 0 ∷ 0 ∷ [] }) ≡ none
-unfolding tiny decode sheetTest shapeTest balancedTest shapeOf listOf nonzero readTree equalLists layOut laySlots layCounts padTo layLeaves leafCounts spread place slotOf leafSlots height digits doublings countOrder shapeCounts writeTree ifLe
+unfolding tiny decode sheetTest shapeTest balancedTest shapeOf shapeIn numbered numberOrder countPlace listOf nonzero readTree equalLists layOut laySlots layCounts padTo layLeaves leafCounts spread putEntries slotOf leafSlots height digits doublings countOrder reorder pick rangeAt shapeCounts writeTree ifLe
 gap = refl

@@ -6,13 +6,9 @@ use lib.ListN.{length, take, drop, replicate}
 use Rattle.tree_sizes.specs.Sizes.{height, leafSlots}
 use Rattle.tree_rules.specs.Tree.{Tree, leaf, node, Shape}
 use Rattle.tree_counts.specs.Counts.{shapeCounts}
+use Rattle.store_layout.specs.declared.Capacity.{Capacity}
 use Rattle.store_layout.specs.Leaf.{spread}
-
--- What a store has room for: entries, slots, counts.
-pub record Capacity : Type 0 where
-  pub entries : ℕ
-  pub slots : ℕ
-  pub counts : ℕ
+use Rattle.store_layout.specs.CountOrder.{countOrder}
 
 -- The store: two lent slices.
 pub record Store : Type 0 where
@@ -32,10 +28,6 @@ layLeaves s (n ∷ ns) list = spread s (take n list) ++ layLeaves s ns (drop n l
 -- Everything unused is zero.
 unfoldable pub padTo : ℕ → List ℕ → List ℕ
 padTo room xs = xs ++ replicate (room - length xs) 0
-
--- The order in which the counts of the ranges stand in the store: that of the range numbers.
-unfoldable pub countOrder : ℕ → List ℕ → List ℕ
-countOrder height counts = counts
 
 unfoldable pub laySlots : ℕ → List ℕ → Shape → List ℕ
 laySlots room list s = padTo room (layLeaves (leafSlots (s .size)) (leafCounts (length list) (s .tree)) list)

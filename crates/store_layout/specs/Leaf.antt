@@ -13,13 +13,13 @@ pub record Positions (n s : ℕ) (position : ℕ → ℕ) : Type 0 where
   pub inside : (k : ℕ) → k < n → position k < s
 
 -- The slots with the entries put in at the positions of k, k + 1, ..
-unfoldable pub place : (ℕ → ℕ) → ℕ → List ℕ → List ℕ → List ℕ
-place position k [] slots = slots
-place position k (x ∷ xs) slots = set (place position (suc k) xs slots) (position k) x
+unfoldable pub putEntries : (ℕ → ℕ) → ℕ → List ℕ → List ℕ → List ℕ
+putEntries position k [] slots = slots
+putEntries position k (x ∷ xs) slots = set (putEntries position (suc k) xs slots) (position k) x
 
 -- s slots with the entries at the places of the leaf rule, and 0 in every other slot.
 unfoldable pub spread : ℕ → List ℕ → List ℕ
-spread s entries = place (slotOf s (length entries)) 0 entries (replicate s 0)
+spread s entries = putEntries (slotOf s (length entries)) 0 entries (replicate s 0)
 
 -- The entries that stand in some slots, from left to right.
 unfoldable pub nonzero : List ℕ → List ℕ

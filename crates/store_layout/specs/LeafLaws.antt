@@ -8,7 +8,7 @@ use lib.Seq.{getD-set-same, getD-set-other}
 use native.Mathlib.Nat.{add-zero, add-suc, suc-add, zero-add, div-lt-iff-lt-mul, div-mul-le-self, le-div-iff-mul-le, le-of-suc-le-suc, mul-le-mul-right, not-suc-le-zero, suc-ne-zero}
 use native.Mathlib.Omega.{arith}
 use Rattle.base.specs.Lists.{Every}
-use Rattle.store_layout.specs.Leaf.{slotOf, Positions, place, spread, nonzero}
+use Rattle.store_layout.specs.Leaf.{slotOf, Positions, putEntries, spread, nonzero}
 
 -- ---- the leaf rule
 
@@ -29,38 +29,38 @@ slotOf-positions s n h = record {
 -- ---- entries put in at positions
 
 module _ (position : ℕ → ℕ) where
-  pub length-place : (k : ℕ) (xs slots : List ℕ) → length (place position k xs slots) ≡ length slots
-  unfolding place
-  length-place k [] slots = refl
-  length-place k (x ∷ xs) slots = length-set (place position (suc k) xs slots) (position k) x ∙ length-place (suc k) xs slots
+  pub length-put : (k : ℕ) (xs slots : List ℕ) → length (putEntries position k xs slots) ≡ length slots
+  unfolding putEntries
+  length-put k [] slots = refl
+  length-put k (x ∷ xs) slots = length-set (putEntries position (suc k) xs slots) (position k) x ∙ length-put (suc k) xs slots
 
   -- A slot that is no entry's position keeps what it held.
-  pub place-other : (k : ℕ) (xs slots : List ℕ) (i : ℕ) → ((j : ℕ) → k ≤ j → j < k + length xs → (i ≡ position j → ⊥))
-      → getD (place position k xs slots) i 0 ≡ getD slots i 0
-  unfolding place
-  place-other k [] slots i h = refl
-  place-other k (x ∷ xs) slots i h =
-      getD-set-other (place position (suc k) xs slots) (position k) i x 0 (h k (omega arith) (omega arith))
-      ∙ place-other (suc k) xs slots i (λ j a b. h j (omega arith) (omega arith))
+  pub put-other : (k : ℕ) (xs slots : List ℕ) (i : ℕ) → ((j : ℕ) → k ≤ j → j < k + length xs → (i ≡ position j → ⊥))
+      → getD (putEntries position k xs slots) i 0 ≡ getD slots i 0
+  unfolding putEntries
+  put-other k [] slots i h = refl
+  put-other k (x ∷ xs) slots i h =
+      getD-set-other (putEntries position (suc k) xs slots) (position k) i x 0 (h k (omega arith) (omega arith))
+      ∙ put-other (suc k) xs slots i (λ j a b. h j (omega arith) (omega arith))
 
   positions-next : (k s : ℕ) (x : ℕ) (xs : List ℕ) → Positions (k + length (x ∷ xs)) s position → Positions (suc k + length xs) s position
   positions-next k s x xs p =
       subst (λ (m : ℕ). Positions m s position) (add-suc k (length xs) ∙ sym (suc-add k (length xs))) p
 
   -- Each entry stands at its position.
-  pub place-at : (k : ℕ) (xs slots : List ℕ) → Positions (k + length xs) (length slots) position → (j : ℕ) → j < length xs
-      → getD (place position k xs slots) (position (k + j)) 0 ≡ getD xs j 0
-  unfolding place
-  place-at k [] slots p j h = absurd (not-suc-le-zero h)
-  place-at k (x ∷ xs) slots p zero h =
+  pub put-at : (k : ℕ) (xs slots : List ℕ) → Positions (k + length xs) (length slots) position → (j : ℕ) → j < length xs
+      → getD (putEntries position k xs slots) (position (k + j)) 0 ≡ getD xs j 0
+  unfolding putEntries
+  put-at k [] slots p j h = absurd (not-suc-le-zero h)
+  put-at k (x ∷ xs) slots p zero h =
       rw (add-zero k)
-      (getD-set-same (place position (suc k) xs slots) (position k) x 0
-      (rw (length-place (suc k) xs slots) (p .inside k (omega arith))))
-  place-at k (x ∷ xs) slots p (suc j) h =
-      getD-set-other (place position (suc k) xs slots) (position k) (position (k + suc j)) x 0
+      (getD-set-same (putEntries position (suc k) xs slots) (position k) x 0
+      (rw (length-put (suc k) xs slots) (p .inside k (omega arith))))
+  put-at k (x ∷ xs) slots p (suc j) h =
+      getD-set-other (putEntries position (suc k) xs slots) (position k) (position (k + suc j)) x 0
       (λ e. omega (arith, p .rises k (k + suc j) (omega arith) (omega arith)))
-      ∙ ap (λ (m : ℕ). getD (place position (suc k) xs slots) (position m) 0) (add-suc k j ∙ sym (suc-add k j))
-      ∙ place-at (suc k) xs slots (positions-next k (length slots) x xs p) j (le-of-suc-le-suc h)
+      ∙ ap (λ (m : ℕ). getD (putEntries position (suc k) xs slots) (position m) 0) (add-suc k j ∙ sym (suc-add k j))
+      ∙ put-at (suc k) xs slots (positions-next k (length slots) x xs p) j (le-of-suc-le-suc h)
 
 -- ---- the entries that stand in some slots
 
@@ -109,35 +109,35 @@ nonzero-set (y ∷ slots) (suc i) x pos h zeros =
     ∙ ap {B = List ℕ} (λ zs. x ∷ zs) (sym (nonzero-zero y slots (zeros 0 (omega arith))))
 
 module _ (position : ℕ → ℕ) where
-  pub nonzero-place : (k : ℕ) (xs : List ℕ) (s : ℕ) → Positions (k + length xs) s position → Every (λ x. 0 < x) xs
-      → nonzero (place position k xs (replicate s 0)) ≡ xs
-  unfolding place Every
-  nonzero-place k [] s p pos = nonzero-zeros s
-  nonzero-place k (x ∷ xs) s p pos =
-      nonzero-set (place position (suc k) xs (replicate s 0)) (position k) x (pos .0)
-      (rw (length-place position (suc k) xs (replicate s 0), length-replicate) (p .inside k (omega arith)))
-      (λ i h. place-other position (suc k) xs (replicate s 0) i (λ j low high e. omega (arith, p .rises k j (omega arith) (omega arith)))
+  pub nonzero-put : (k : ℕ) (xs : List ℕ) (s : ℕ) → Positions (k + length xs) s position → Every (λ x. 0 < x) xs
+      → nonzero (putEntries position k xs (replicate s 0)) ≡ xs
+  unfolding putEntries Every
+  nonzero-put k [] s p pos = nonzero-zeros s
+  nonzero-put k (x ∷ xs) s p pos =
+      nonzero-set (putEntries position (suc k) xs (replicate s 0)) (position k) x (pos .0)
+      (rw (length-put position (suc k) xs (replicate s 0), length-replicate) (p .inside k (omega arith)))
+      (λ i h. put-other position (suc k) xs (replicate s 0) i (λ j low high e. omega (arith, p .rises k j (omega arith) (omega arith)))
       ∙ getD-replicate s i 0 0 (omega (arith, p .inside k (omega arith))))
-      ∙ ap {B = List ℕ} (λ zs. x ∷ zs) (nonzero-place (suc k) xs s (positions-next position k s x xs p) (pos .1))
+      ∙ ap {B = List ℕ} (λ zs. x ∷ zs) (nonzero-put (suc k) xs s (positions-next position k s x xs p) (pos .1))
 
 -- ---- a leaf
 
 module _ (s : ℕ) (xs : List ℕ) where
   pub length-spread : length (spread s xs) ≡ s
   unfolding spread
-  length-spread = length-place (slotOf s (length xs)) 0 xs (replicate s 0) ∙ length-replicate s 0
+  length-spread = length-put (slotOf s (length xs)) 0 xs (replicate s 0) ∙ length-replicate s 0
 
   pub nonzero-spread : length xs ≤ s → Every (λ x. 0 < x) xs → nonzero (spread s xs) ≡ xs
   unfolding spread
   nonzero-spread fit pos =
-      nonzero-place (slotOf s (length xs)) 0 xs s (rw (zero-add (length xs)) (slotOf-positions s (length xs) fit)) pos
+      nonzero-put (slotOf s (length xs)) 0 xs s (rw (zero-add (length xs)) (slotOf-positions s (length xs) fit)) pos
 
 module _ (s n : ℕ) (xs : List ℕ) (number : length xs ≡ n) where
   -- 0 in a slot without an entry
   pub spread-gap : (i : ℕ) → i < s → ((k : ℕ) → k < n → (i ≡ slotOf s n k → ⊥)) → getD (spread s xs) i 0 ≡ 0
   unfolding spread
   spread-gap i h other =
-      place-other (slotOf s (length xs)) 0 xs (replicate s 0) i (rw number (λ j low high. other j (omega arith)))
+      put-other (slotOf s (length xs)) 0 xs (replicate s 0) i (rw number (λ j low high. other j (omega arith)))
       ∙ getD-replicate s i 0 0 h
 
   pub spread-entry : n ≤ s → (k : ℕ) → k < n → getD (spread s xs) (slotOf s n k) 0 ≡ getD xs k 0
@@ -145,5 +145,5 @@ module _ (s n : ℕ) (xs : List ℕ) (number : length xs ≡ n) where
   spread-entry fit k h =
       rw number
       (rw (zero-add k) at
-      (place-at (slotOf s n) 0 xs (replicate s 0) (rw (zero-add (length xs), length-replicate, number) (slotOf-positions s n fit)) k
+      (put-at (slotOf s n) 0 xs (replicate s 0) (rw (zero-add (length xs), length-replicate, number) (slotOf-positions s n fit)) k
       (omega arith)))

@@ -1,14 +1,19 @@
 -- The layout of a sheet: definitions first, then their laws.
 pub mod Leaf
+pub mod CountOrder
 pub mod Layout
 pub mod Sheet
+pub mod Decode
 pub mod Room
 pub mod Ready
 pub mod Quotient
 pub mod Examples
 pub mod LeafLaws
+pub mod CountOrderLaws
 pub mod QuotientLaws
+pub mod NumberedLaws
 pub mod LayoutLaws
+pub mod RoomLaws
 pub mod SheetLaws
 pub mod LeafLoop
 pub mod LeavesLoop

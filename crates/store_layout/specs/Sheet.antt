@@ -1,17 +1,12 @@
--- What a sheet is, and its list and shape read back from the store. Definitions only.
+-- What a sheet is. Definitions only.
 use mathlib.Core.Path.{_≡_}
-use mathlib.Core.Bool.{Bool, true, false, _&&_}
 use mathlib.Core.List.{List}
-use mathlib.Core.Option.{Option, some, none}
-use Prim.Native.Nat.{ℕ, zero, suc, _+_, _-_, _*_, _≤_, _<_}
-use lib.Dec.{leb, ltb}
-use lib.ListN.{length, getD}
-use Rattle.base.specs.Lists.{Every, equalLists}
-use Rattle.tree_sizes.specs.Sizes.{height, candidates, windowStart}
-use Rattle.tree_rules.specs.Tree.{Tree, leaf, node, Shape, IsShape}
-use Rattle.tree_counts.specs.Counts.{readTree}
-use Rattle.store_layout.specs.Leaf.{nonzero}
-use Rattle.store_layout.specs.Layout.{Capacity, Store, layOut}
+use Prim.Native.Nat.{ℕ, _≤_, _<_}
+use lib.ListN.{length}
+use Rattle.base.specs.Lists.{Every}
+use Rattle.tree_rules.specs.Tree.{Shape, IsShape}
+use Rattle.store_layout.specs.declared.Capacity.{Capacity}
+use Rattle.store_layout.specs.Layout.{Store, layOut}
 
 -- The list and the shape can be the contents of a sheet of this capacity: an entry is other than zero, and has 64 bits as slots have.
 pub record IsContents (cap : Capacity) (list : List ℕ) (s : Shape) : Type 0 where
@@ -25,43 +20,3 @@ pub record IsSheet (cap : Capacity) (store : Store) : Type 0 where
   pub shape : Shape
   pub valid : IsContents cap list shape
   pub laid : store ≡ layOut cap list shape
-
--- ---- reading back
-
--- The list and the shape that a store can only have.
-unfoldable pub listOf : Store → List ℕ
-listOf store = nonzero (store .slots)
-
-unfoldable pub shapeOf : Store → Shape
-shapeOf store =
-    let M = getD (store .counts) 0 0 in
-    record { size = M; tree = readTree (height M) (store .counts) 1 }
-
--- The tests of the definitions above.
-unfoldable pub balancedTest : ℕ → ℕ → ℕ → ℕ → Tree → Bool
-balancedTest M zero d n leaf = true
-balancedTest M zero d n (node b l r) = false
-balancedTest M (suc levels) d n leaf = false
-balancedTest M (suc levels) d n (node b l r) =
-    leb (windowStart n (candidates M d)) b
-    && ltb b (windowStart n (candidates M d) + candidates M d)
-    && balancedTest M levels (suc d) b l
-    && balancedTest M levels (suc d) (n - b) r
-
-unfoldable pub shapeTest : ℕ → Shape → Bool
-shapeTest N s = leb N (s .size) && leb (s .size) (2 * N - 1) && balancedTest (s .size) (height (s .size)) 0 N (s .tree)
-
-unfoldable pub sheetTest : Capacity → Store → Bool
-sheetTest cap store =
-    leb (length (listOf store)) (cap .entries)
-    && shapeTest (length (listOf store)) (shapeOf store)
-    && equalLists (store .slots) (layOut cap (listOf store) (shapeOf store) .slots)
-    && equalLists (store .counts) (layOut cap (listOf store) (shapeOf store) .counts)
-
--- The list and shape that lay the store out, if it is a sheet.
-pub record Contents : Type 0 where
-  pub list : List ℕ
-  pub shape : Shape
-
-unfoldable pub decode : Capacity → Store → Option Contents
-decode cap store = elim (sheetTest cap store) [ true ↦ some (record { list = listOf store; shape = shapeOf store }) | false ↦ none ]

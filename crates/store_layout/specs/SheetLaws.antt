@@ -1,12 +1,12 @@
 -- Decoding: what was laid out is read back, what decodes was laid out, and so a sheet has one list and one shape.
-use mathlib.Core.Path.{_≡_, refl, ap, ap₂, _∙_}
+use mathlib.Core.Path.{_≡_, refl, sym, ap, ap₂, _∙_}
 use mathlib.Core.Bool.{true, false, _&&_}
 use mathlib.Core.List.{List, append-nil}
 use mathlib.Core.Logic.{⊎-elim}
 use mathlib.Core.Option.{some, none}
-use Prim.Native.Nat.{ℕ, zero, suc, _+_, _-_, _*_}
+use Prim.Native.Nat.{ℕ, zero, suc, _+_, _-_, _*_, _^_, _≤_, _<_}
 use lib.Dec.{leb, ltb}
-use lib.ListN.{length, replicate, length-append, length-replicate}
+use lib.ListN.{length, getD, replicate, length-append, length-replicate}
 use native.Mathlib.Omega.{arith}
 use borrow.Author.Tests.{le-leb, lt-ltb, leb-true, ltb-true}
 use Rattle.base.specs.Lists.{equalLists}
@@ -17,12 +17,17 @@ use Rattle.tree_sizes.specs.Fit.{fit}
 use Rattle.tree_rules.specs.Tree.{Tree, leaf, node, Balanced, Shape, IsShape}
 use Rattle.tree_counts.specs.Ranges.{Perfect}
 use Rattle.tree_counts.specs.RangeLaws.{balanced-perfect}
-use Rattle.tree_counts.specs.ShapeCountLaws.{length-shapeCounts, shapeCounts-read, shapeCounts-size}
+use Rattle.tree_counts.specs.Counts.{shapeCounts, shapeIn}
+use Rattle.tree_counts.specs.ShapeCountLaws.{length-shapeCounts, shapeCounts-size, shapeCounts-total, shapeIn-shapeCounts}
 use Rattle.store_layout.specs.Leaf.{nonzero}
-use Rattle.store_layout.specs.Layout.{Capacity, Store, leafCounts, layLeaves, padTo, countOrder, laySlots, layCounts, layOut}
-use Rattle.store_layout.specs.Sheet.{IsContents, IsSheet, listOf, shapeOf, balancedTest, shapeTest, sheetTest, Contents, decode}
+use Rattle.store_layout.specs.declared.Capacity.{Capacity}
+use Rattle.store_layout.specs.Layout.{Store, leafCounts, layLeaves, padTo, laySlots, layCounts, layOut}
+use Rattle.store_layout.specs.Sheet.{IsContents, IsSheet}
+use Rattle.store_layout.specs.Decode.{numbered, listOf, shapeOf, balancedTest, shapeTest, sheetTest, Contents, decode}
 use Rattle.store_layout.specs.Room.{Roomy}
 use Rattle.store_layout.specs.LeafLaws.{nonzero-positive, nonzero-append, nonzero-zeros}
+use Rattle.store_layout.specs.CountOrderLaws.{length-countOrder, countOrder-size, countOrder-root, number-count}
+use Rattle.store_layout.specs.NumberedLaws.{numbered-size}
 use Rattle.store_layout.specs.LayoutLaws.{length-leafCounts, leafCounts-total, leafCounts-fit, length-layLeaves, nonzero-layLeaves}
 
 -- ---- the tests and what they test
@@ -81,6 +86,10 @@ module _ (cap : Capacity) (store : Store) where
   unfolding decode
   decode-false h = rw (h, decode)
 
+pub shapeOf-size : (store : Store) → shapeOf store .size ≡ getD (store .counts) 0 0
+unfolding shapeOf shapeIn
+shapeOf-size store = numbered-size store
+
 -- ---- the layout of contents
 
 module _ (cap : Capacity) (list : List ℕ) (s : Shape) (w : IsContents cap list s) where
@@ -98,8 +107,9 @@ module _ (cap : Capacity) (list : List ℕ) (s : Shape) (w : IsContents cap list
       (w .entries)
 
   pub length-counts : length (layOut cap list s .counts) ≡ cap .counts
-  unfolding layOut layCounts countOrder
-  length-counts = length-shapeCounts (cap .counts) (length list) s
+  unfolding layOut layCounts
+  length-counts =
+      length-countOrder (height (s .size)) (shapeCounts (cap .counts) (length list) s) ∙ length-shapeCounts (cap .counts) (length list) s
 
   pub length-slots : Roomy cap → length (layOut cap list s .slots) ≡ cap .slots
   unfolding layOut laySlots padTo slots
@@ -119,14 +129,33 @@ module _ (cap : Capacity) (list : List ℕ) (s : Shape) (w : IsContents cap list
       nonzero-append leaves (replicate (cap .slots - length leaves) 0)
       ∙ rw (nonzero-zeros (cap .slots - length leaves), append-nil (nonzero leaves)) leaves-layOut
 
-  pub shapeOf-layOut : Roomy cap → shapeOf (layOut cap list s) ≡ s
-  unfolding shapeOf layOut layCounts countOrder
-  shapeOf-layOut roomy =
-      let room = roomy .counts-fit (length list) (s .size) (w .room) (w .shape .allowed) in
-      rw (
-        shapeCounts-size (height (s .size)) (cap .counts) (length list) s contents-perfect room,
-        shapeCounts-read (height (s .size)) (cap .counts) (length list) s contents-perfect room,
-      )
+  module _ (roomy : Roomy cap) where
+    counts-room : 2 * 2 ^ height (s .size) ≤ cap .counts
+    counts-room = roomy .counts-fit (length list) (s .size) (w .room) (w .shape .allowed)
+
+    -- The size parameter and the number of entries stand at counts 0 and 1.
+    pub size-layOut : getD (layOut cap list s .counts) 0 0 ≡ s .size
+    unfolding layOut layCounts
+    size-layOut =
+        countOrder-size (height (s .size)) (shapeCounts (cap .counts) (length list) s)
+        ∙ shapeCounts-size (height (s .size)) (cap .counts) (length list) s contents-perfect counts-room
+
+    pub count-layOut : getD (layOut cap list s .counts) 1 0 ≡ length list
+    unfolding layOut layCounts
+    count-layOut =
+        countOrder-root (height (s .size)) (shapeCounts (cap .counts) (length list) s)
+        ∙ shapeCounts-total (height (s .size)) (cap .counts) (length list) s contents-perfect counts-room
+
+    pub numbered-layOut : numbered (layOut cap list s) ≡ shapeCounts (cap .counts) (length list) s
+    unfolding numbered layOut layCounts
+    numbered-layOut =
+        rw size-layOut
+        (number-count (height (s .size)) (shapeCounts (cap .counts) (length list) s)
+        (rw (length-shapeCounts (cap .counts) (length list) s) counts-room))
+
+    pub shapeOf-layOut : shapeOf (layOut cap list s) ≡ s
+    unfolding shapeOf
+    shapeOf-layOut = rw numbered-layOut (shapeIn-shapeCounts (cap .counts) (length list) s contents-perfect counts-room)
 
   pub test-layOut : Roomy cap → sheetTest cap (layOut cap list s) ≡ true
   unfolding sheetTest
@@ -181,6 +210,20 @@ pub decode-sound : (cap : Capacity) (store : Store) (contents : Contents) → de
     → IsContents cap (contents .list) (contents .shape) × (store ≡ layOut cap (contents .list) (contents .shape))
 decode-sound cap store contents h = let w = decoded cap store contents h in rw (w .1) (test-sound cap store (w .0))
 
+-- The size parameter stands at count 0.
+pub size-known : (cap : Capacity) (store : Store) (c : Contents) → decode cap store ≡ some c → getD (store .counts) 0 0 ≡ c .shape .size
+size-known cap store c h = sym (ap (λ (x : Contents). x .shape .size) (decoded cap store c h .1) ∙ shapeOf-size store)
+
+-- No sheet has a size parameter that its entries cannot have.
+pub size-refused : (cap : Capacity) (store : Store) → 2 * cap .entries - 1 < getD (store .counts) 0 0 → sheetTest cap store ≡ false
+size-refused cap store large =
+    ⊎-elim
+    (λ yes.
+    let w = test-sound cap store yes .0 in
+    absurd (omega (arith, w .room, w .shape .allowed .most, shapeOf-size store)))
+    (λ no. no)
+    (true-or-false (sheetTest cap store))
+
 -- ---- sheets
 
 module _ (cap : Capacity) (roomy : Roomy cap) where
@@ -200,3 +243,7 @@ module _ (cap : Capacity) (roomy : Roomy cap) where
 
     pub not-sheet : decode cap store ≡ none → ¬ IsSheet cap store
     not-sheet h w = let z : _≡_ {A = ℕ} 0 1 = cc (sheet-decodes w) in omega arith
+
+    -- The number of entries stands at count 1.
+    pub count-is : (c : Contents) → decode cap store ≡ some c → getD (store .counts) 1 0 ≡ length (c .list)
+    count-is c h = let w = decode-sound cap store c h in rw (w .1) (count-layOut cap (c .list) (c .shape) (w .0) roomy)

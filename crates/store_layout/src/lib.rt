@@ -8,6 +8,13 @@ ghost use Rattle.store_layout.specs.Quotient.{divided, added, positionOf
 ghost use Rattle.store_layout.specs.Layout.{layLeaves};
 ghost use Rattle.store_layout.specs.Ready.{LeafReady, LeavesReady, GatherReady, Gathered};
 
+// What a store has room for.
+pub struct Capacity {
+    pub entries: usize,
+    pub slots: usize,
+    pub counts: usize,
+}
+
 // A quotient, rounded down, and its remainder.
 pub struct Quotient {
     pub whole: usize,

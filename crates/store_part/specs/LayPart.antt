@@ -47,14 +47,13 @@ pub record EntriesReady (M : ℕ) (part : Part) (counts list slots : List ℕ) :
   pub list-room : total (partCounts M part counts) ≤ length list
   pub fit : Every (λ n. n ≤ leafSlots M) (partCounts M part counts)
 
--- The part stands in both sheets, its entries are few enough for a list of 1,025, and the counts are those of the changed entries.
+-- The part stands in both sheets, and the counts are those of its changed entries.
 pub record LayReady (M M′ : ℕ) (part : Part) (change : Change) (counts slots : List ℕ) : Type 0 where
   pub old-part : PartReady M part
   pub new-part : PartReady M′ part
   pub old-room : partFrom M part + partLength M part ≤ length slots
   pub new-room : partFrom M′ part + partLength M′ part ≤ length slots
   pub counts-room : part .range * leavesOf M′ (part .depth) + leavesOf M′ (part .depth) ≤ length counts
-  pub few : length (partEntries M part slots) < 1025
   pub reach : InReach (atRank change (part .rank)) (length (partEntries M part slots))
   pub counts-total : total (partCounts M′ part counts) ≡ countAfter change (length (partEntries M part slots))
   pub counts-fit : Every (λ n. n ≤ leafSlots M′) (partCounts M′ part counts)

@@ -23,7 +23,8 @@ use Rattle.tree_counts.specs.RangeLaws.{balanced-perfect}
 use Rattle.tree_counts.specs.ShapeCountLaws.{length-shapeCounts, shapeCounts-holds}
 use Rattle.tree_counts.specs.Confined.{Confined}
 use Rattle.store_layout.specs.Leaf.{nonzero}
-use Rattle.store_layout.specs.Layout.{Capacity, leafCounts, layLeaves, padTo, laySlots}
+use Rattle.store_layout.specs.declared.Capacity.{Capacity}
+use Rattle.store_layout.specs.Layout.{leafCounts, layLeaves, padTo, laySlots}
 use Rattle.store_layout.specs.Sheet.{IsContents}
 use Rattle.store_layout.specs.Room.{Roomy}
 use Rattle.store_layout.specs.LayoutLaws.{holds-leaves, leafCounts-total, leafCounts-fit, nonzero-layLeaves}

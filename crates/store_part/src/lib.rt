@@ -3,7 +3,7 @@ use tree_counts::Part;
 use tree_rules::Change;
 use tree_sizes::Size;
 ghost use mathlib.Core.Path.{_≡_};
-ghost use Prim.Native.Nat.{max, _*_, _^_, _<_, _≤_};
+ghost use Prim.Native.Nat.{_*_, _^_, _<_, _≤_};
 ghost use lib.ListN.{length};
 ghost use Rattle.tree_sizes.specs.Sizes.{height};
 ghost use Rattle.store_part.specs.LayPart.{partEntries, PartReady, EntriesReady, layEntries, layPart, LayReady};
@@ -30,13 +30,6 @@ fn region_before(size: Size, range: usize, depth: usize) -> usize
 {
     let number = range - tree_sizes::power(depth);
     number * region_leaves(size, depth)
-}
-
-// The larger of two numbers.
-fn larger(x: usize, y: usize) -> usize
-    ensures { λ r. ⌜ r ≡ max x y ⌝ }
-{
-    if x < y { y } else { x }
 }
 
 // The first slot of the part in a sheet of this size.
@@ -73,7 +66,7 @@ fn lay_entries(slots: &mut [u64], size: Size, part: Part, counts: &[u32], list: 
 
 // Lays out anew the part of a sheet that a change is confined to: its entries are gathered into the list and changed there, the slots that
 // it no longer needs are zeroed, and its leaves are laid out by the new counts.
-fn lay_part_by(
+pub fn lay_part(
     slots: &mut [u64],
     old: Size,
     new: Size,
@@ -95,24 +88,7 @@ fn lay_part_by(
     store_slices::change_list(list, n, here, e);
     let end = part_from(new, part) + part_length(new, part);
     let old_end = old_from + old_length;
-    let last = larger(end, old_end);
+    let last = base::larger(end, old_end);
     store_slices::zero_slots(slots, end, last);
     lay_entries(slots, new, part, counts, list);
-}
-
-// The same with a list of its own.
-pub fn lay_part(
-    slots: &mut [u64],
-    old: Size,
-    new: Size,
-    part: Part,
-    change: Change,
-    e: u64,
-    counts: &[u32],
-)
-    requires { ⌜ LayReady (old .m) (new .m) part change (now counts) (now slots) ⌝ }
-    ensures { λ _. ⌜ now (slots .exit) ≡ layPart (old .m) (new .m) part change e (now (counts .entry)) (now (slots .entry)) ⌝ }
-{
-    let mut list = [0u64; 1025];
-    lay_part_by(slots, old, new, part, change, e, counts, &mut list);
 }

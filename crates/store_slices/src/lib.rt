@@ -1,10 +1,9 @@
-// Single steps on slices: an entry put in or taken out, slots zeroed, entries read out, counts copied to numbers of another width.
+// Single steps on slices: an entry put in or taken out, slots zeroed, entries read out.
 use tree_rules::Change;
 ghost use mathlib.Core.Path.{_≡_};
 ghost use mathlib.Core.List.{_∷_, _++_};
-ghost use Prim.Native.Nat.{_+_, _-_, _^_, _<_, _≤_};
+ghost use Prim.Native.Nat.{_+_, _-_, _<_, _≤_};
 ghost use lib.ListN.{length, take, drop, replicate};
-ghost use Rattle.base.specs.Lists.{Every};
 ghost use Rattle.store_layout.specs.Leaf.{nonzero};
 ghost use Rattle.tree_rules.specs.Rules.{InReach};
 ghost use Rattle.store_slices.specs.Changed.{Changed};
@@ -97,32 +96,5 @@ pub fn read_out(slots: &[u64], first: usize, count: usize, output: &mut [u64])
             output[seen] = x;
             seen += 1;
         }
-    }
-}
-
-// Copies the counts into a work array of wider numbers.
-pub fn widen(counts: &[u16], work: &mut [u32])
-    requires lengths { ⌜ length (now work) ≡ length (now counts) ⌝ }
-    ensures { λ _. ⌜ now (work .exit) ≡ now (counts .entry) ⌝ }
-{
-    let mut i = 0;
-    while i < counts.len() {
-        let count = counts[i];
-        work[i] = count as u32;
-        i += 1;
-    }
-}
-
-// Copies the counts back out of a work array whose numbers fit.
-pub fn narrow(work: &[u32], counts: &mut [u16])
-    requires lengths { ⌜ length (now counts) ≡ length (now work) ⌝ }
-    requires small { ⌜ Every (λ c. c < 2 ^ 16) (now work) ⌝ }
-    ensures { λ _. ⌜ now (counts .exit) ≡ now (work .entry) ⌝ }
-{
-    let mut i = 0;
-    while i < work.len() {
-        let count = work[i];
-        counts[i] = count as u16;
-        i += 1;
     }
 }

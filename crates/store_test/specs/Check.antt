@@ -1,13 +1,12 @@
 -- The tests by which code checks a store: range by range, leaf by leaf, and that everything unused is zero. Definitions only.
 use mathlib.Core.Bool.{Bool, true, _&&_}
 use mathlib.Core.List.{List, [], _∷_}
-use Prim.Native.Nat.{ℕ, zero, suc, _+_, _-_, _*_, _/_, _^_}
+use Prim.Native.Nat.{ℕ, zero, suc, _+_, _-_, _*_, _^_}
 use lib.Dec.{eqb, leb, ltb}
 use lib.ListN.{length, getD, take, drop}
 use Rattle.base.specs.Lists.{equalLists}
-use Rattle.tree_sizes.specs.Sizes.{height, leafSlots, slots, candidates, windowStart}
+use Rattle.tree_sizes.specs.Sizes.{height, leafSlots, slots, candidates, halfCandidates, windowStart}
 use Rattle.store_layout.specs.Leaf.{spread, nonzero}
-use Rattle.store_layout.specs.Layout.{Store}
 use Rattle.store_zeros.specs.AllZero.{allZero}
 
 -- A leaf of s slots with n entries: they stand where the leaf rule has them, and every other slot is 0.
@@ -39,8 +38,8 @@ unfoldable pub branchTest : List ℕ → ℕ → ℕ → ℕ → Bool
 branchTest counts c zero k = true
 branchTest counts c (suc levels) k =
     rangeTest counts c k
-    && branchTest counts (c - c / 2) levels (2 * k)
-    && branchTest counts (c - c / 2) levels (2 * k + 1)
+    && branchTest counts (halfCandidates c) levels (2 * k)
+    && branchTest counts (halfCandidates c) levels (2 * k + 1)
 
 -- The counts are those of a shape of at most `entries` entries, and 0 at every number that is not in use.
 unfoldable pub countsTest : ℕ → List ℕ → Bool
@@ -59,6 +58,7 @@ slotsTest all counts =
     let M = getD counts 0 0 in
     leavesTest (leafSlots M) (take (2 ^ height M) (drop (2 ^ height M) counts)) all && allZero (drop (slots M) all)
 
--- The store is a sheet for at most `entries` entries. (`CheckLaws` shows that this is the test `sheetTest`.)
-unfoldable pub storeTest : ℕ → Store → Bool
-storeTest entries store = countsTest entries (store .counts) && slotsTest (store .slots) (store .counts)
+-- A store with these slots, and these counts by range number, is a sheet for at most `entries` entries. (`CheckLaws` shows that this is the
+-- test `sheetTest`.)
+unfoldable pub storeTest : ℕ → List ℕ → List ℕ → Bool
+storeTest entries all counts = countsTest entries counts && slotsTest all counts

@@ -1,5 +1,5 @@
 -- The tests that code makes of a store decide whether it is a sheet.
-use mathlib.Core.Path.{_≡_, refl, sym, ap₂, _∙_}
+use mathlib.Core.Path.{_≡_, refl, sym, ap, ap₂, _∙_}
 use mathlib.Core.Bool.{true, _&&_}
 use mathlib.Core.List.{List, [], _∷_, _++_, append-assoc}
 use Prim.Native.Nat.{ℕ, suc, _+_, _-_, _*_, _^_, _≤_, _<_}
@@ -15,19 +15,24 @@ use Rattle.base.specs.ListLaws.{every-take, every-drop}
 use Rattle.tree_sizes.specs.Sizes.{height, leafSlots, slots}
 use Rattle.tree_sizes.specs.Fit.{fit}
 use Rattle.tree_rules.specs.Tree.{Tree, Shape, IsShape}
-use Rattle.tree_counts.specs.Counts.{readTree, shapeCounts, Holds}
+use Rattle.tree_counts.specs.Counts.{readTree, shapeCounts, shapeIn, Holds}
 use Rattle.tree_counts.specs.RangeLaws.{balanced-perfect}
 use Rattle.tree_counts.specs.CountLaws.{read-perfect}
 use Rattle.tree_counts.specs.ShapeCountLaws.{length-shapeCounts, shapeCounts-holds, shapeCounts-only, shapeCounts-size, shapeCounts-total, shapeCounts-unused}
 use Rattle.store_layout.specs.Leaf.{spread, nonzero}
-use Rattle.store_layout.specs.Layout.{Capacity, Store, leafCounts, layLeaves, padTo, countOrder, laySlots, layCounts, layOut}
-use Rattle.store_layout.specs.Sheet.{IsContents, IsSheet, sheetTest}
+use Rattle.store_layout.specs.declared.Capacity.{Capacity}
+use Rattle.store_layout.specs.CountOrder.{countOrder}
+use Rattle.store_layout.specs.Layout.{Store, leafCounts, layLeaves, padTo, laySlots, layCounts, layOut}
+use Rattle.store_layout.specs.Sheet.{IsContents, IsSheet}
+use Rattle.store_layout.specs.Decode.{numbered, sheetTest}
 use Rattle.store_layout.specs.Room.{Roomy}
 use Rattle.store_zeros.specs.AllZero.{allZero}
 use Rattle.store_test.specs.Check.{leafTest, leavesTest, treeTest, countsTest, slotsTest, storeTest}
 use Rattle.store_layout.specs.LeafLaws.{nonzero-positive, length-spread, nonzero-append}
 use Rattle.store_layout.specs.LayoutLaws.{length-leafCounts, holds-leaves, leafCounts-total, leafCounts-fit, length-layLeaves}
-use Rattle.store_layout.specs.SheetLaws.{sheet-test, test-sheet}
+use Rattle.store_layout.specs.CountOrderLaws.{countOrder-size}
+use Rattle.store_layout.specs.NumberedLaws.{numbered-given}
+use Rattle.store_layout.specs.SheetLaws.{numbered-layOut, size-layOut, sheet-test, test-sheet}
 use Rattle.store_zeros.specs.ZeroLaws.{zero-behind, zero-behind-test, zero-sound, zero-test}
 use Rattle.store_test.specs.TreeCheck.{tree-sound, tree-test}
 use Rattle.store_test.specs.LeafCheck.{leaf-sound, leaf-test}
@@ -74,19 +79,15 @@ leaves-test s (n ∷ ns) list rest e fit pos =
 
 -- ---- the counts
 
--- The shape that counts hold.
-abbrev shapeHeld : List ℕ → Shape
-shapeHeld counts = record { size = getD counts 0 0; tree = readTree (height (getD counts 0 0)) counts 1 }
-
 -- What the test of the counts finds: they are those of a shape of so many entries, and 0 at every number that is not in use.
 pub record HasShape (entries : ℕ) (counts : List ℕ) : Type 0 where
   pub few : getD counts 1 0 ≤ entries
-  pub shape : IsShape (getD counts 1 0) (shapeHeld counts)
-  pub holds : Holds counts 1 (getD counts 1 0) (shapeHeld counts .tree)
+  pub shape : IsShape (getD counts 1 0) (shapeIn counts)
+  pub holds : Holds counts 1 (getD counts 1 0) (shapeIn counts .tree)
   pub unused : (j : ℕ) → 2 * 2 ^ height (getD counts 0 0) ≤ j → getD counts j 0 ≡ 0
 
 pub counts-sound : (entries : ℕ) (counts : List ℕ) → countsTest entries counts ≡ true → HasShape entries counts
-unfolding countsTest
+unfolding countsTest shapeIn
 counts-sound entries counts h =
     let M = getD counts 0 0 in
     let N = getD counts 1 0 in
@@ -131,16 +132,19 @@ module _ (entries : ℕ) (counts : List ℕ) (w : HasShape entries counts) where
   tree = readTree (height M) counts 1
 
   pub held-total : total (leafCounts N tree) ≡ N
+  unfolding shapeIn
   held-total = leafCounts-total M (height M) 0 N tree (fit N M (w .shape .allowed)) (w .shape .balanced)
 
   module _ (fits : 2 * 2 ^ height M ≤ length counts) where
     pub held-leaves : take (2 ^ height M) (drop (2 ^ height M) counts) ≡ leafCounts N tree
+    unfolding shapeIn
     held-leaves =
         rw (one-mul (2 ^ height M)) at
         (holds-leaves (height M) counts 1 N tree (read-perfect (height M) counts 1) (omega arith) (w .holds))
 
     -- No leaf has more entries than slots.
     pub held-fit : Every (λ n. n ≤ leafSlots M) (take (2 ^ height M) (drop (2 ^ height M) counts))
+    unfolding shapeIn
     held-fit = rw held-leaves (leafCounts-fit M (height M) 0 N tree (fit N M (w .shape .allowed)) (w .shape .balanced))
 
 -- ---- the store
@@ -152,11 +156,11 @@ padded laid all n front number zeros =
     ∙ ap₂ (λ (xs ys : List ℕ). xs ++ ys) front
     (zero-sound (drop n all) zeros ∙ rw (length-drop n all, number))
 
--- Every sheet meets the tests.
-layOut-test : (cap : Capacity) → Roomy cap → (list : List ℕ) (s : Shape) → IsContents cap list s
-    → storeTest (cap .entries) (layOut cap list s) ≡ true
-unfolding storeTest slotsTest slots layOut laySlots layCounts countOrder padTo
-layOut-test cap roomy list s w =
+-- The slots and the counts of every sheet meet the tests.
+laid-test : (cap : Capacity) → Roomy cap → (list : List ℕ) (s : Shape) → IsContents cap list s
+    → storeTest (cap .entries) (laySlots (cap .slots) list s) (shapeCounts (cap .counts) (length list) s) ≡ true
+unfolding storeTest slotsTest slots laySlots padTo
+laid-test cap roomy list s w =
     let N = length list in
     let h = height (s .size) in
     let ns = leafCounts N (s .tree) in
@@ -182,46 +186,60 @@ layOut-test cap roomy list s w =
       zero-test (cap .slots - length leaves),
     )
 
-module _ (entries : ℕ) (all counts : List ℕ) where
-  abbrev capacity : Capacity
-  capacity = record { entries = entries; slots = length all; counts = length counts }
-
+module _ (cap : Capacity) (roomy : Roomy cap) (all counts : List ℕ) (slots-are : length all ≡ cap .slots) (counts-are : length counts ≡ cap .counts) where
+  -- the store with these slots, and these counts put into its order
   abbrev store : Store
-  store = record { slots = all; counts = counts }
+  store = record { slots = all; counts = countOrder (height (getD counts 0 0)) counts }
 
-  module _ (roomy : Roomy capacity) where
-    store-sound : storeTest entries store ≡ true → IsSheet capacity store
-    unfolding storeTest slotsTest slots layOut laySlots layCounts countOrder
-    store-sound h =
-        let both = and-both (countsTest entries counts) _ h in
-        let w = counts-sound entries counts (both .0) in
-        let M = getD counts 0 0 in
-        let N = getD counts 1 0 in
-        let s = shapeHeld counts in
-        let ns = leafCounts N (s .tree) in
-        let room : 2 * 2 ^ height M ≤ length counts = roomy .counts-fit N M (w .few) (w .shape .allowed) in
-        let levels = read-perfect (height M) counts 1 in
-        let size : leafSlots M * length ns ≡ slots M = rw (length-leafCounts (height M) N (s .tree) levels) in
-        let slot = and-both (leavesTest (leafSlots M) ns all) _ (rw (held-leaves entries counts w room) at (both .1)) in
-        let leaves = rw size at (leaves-sound (leafSlots M) ns all (slot .0)) in
-        let list : List ℕ = nonzero (take (slots M) all) in
-        let number : length list ≡ N = sym (leaves .0) ∙ held-total entries counts w in record {
-          list = list;
-          shape = s;
-          valid = record {
-            room = omega (arith, number, w .few);
-            entries = nonzero-positive (take (slots M) all);
-            shape = rw number (w .shape);
-          };
-          laid =
-              ap₂ {C = Store} (λ (xs ys : List ℕ). record { slots = xs; counts = ys })
-              (rw number
-              (padded (layLeaves (leafSlots M) ns list) all (slots M) (leaves .1) (length-layLeaves (leafSlots M) ns list ∙ size) (slot .1)))
-              (rw number (shapeCounts-only (height M) (length counts) N s levels room counts refl refl (w .holds) (w .unused)));
-        }
+  store-sound : storeTest (cap .entries) all counts ≡ true → IsSheet cap store
+  unfolding storeTest slotsTest slots layOut laySlots layCounts shapeIn
+  store-sound h =
+      let both = and-both (countsTest (cap .entries) counts) _ h in
+      let w = counts-sound (cap .entries) counts (both .0) in
+      let M = getD counts 0 0 in
+      let N = getD counts 1 0 in
+      let s = shapeIn counts in
+      let ns = leafCounts N (s .tree) in
+      let room : 2 * 2 ^ height M ≤ length counts = rw counts-are (roomy .counts-fit N M (w .few) (w .shape .allowed)) in
+      let levels = read-perfect (height M) counts 1 in
+      let size : leafSlots M * length ns ≡ slots M = rw (length-leafCounts (height M) N (s .tree) levels) in
+      let slot = and-both (leavesTest (leafSlots M) ns all) _ (rw (held-leaves (cap .entries) counts w room) at (both .1)) in
+      let leaves = rw size at (leaves-sound (leafSlots M) ns all (slot .0)) in
+      let list : List ℕ = nonzero (take (slots M) all) in
+      let number : length list ≡ N = sym (leaves .0) ∙ held-total (cap .entries) counts w in record {
+        list = list;
+        shape = s;
+        valid = record {
+          room = omega (arith, number, w .few);
+          entries = nonzero-positive (take (slots M) all);
+          shape = rw number (w .shape);
+        };
+        laid =
+            ap₂ {C = Store} (λ (xs ys : List ℕ). record { slots = xs; counts = ys })
+            (rw (number, ← slots-are)
+            (padded (layLeaves (leafSlots M) ns list) all (slots M) (leaves .1) (length-layLeaves (leafSlots M) ns list ∙ size) (slot .1)))
+            (ap (countOrder (height M))
+            (rw (number, ← counts-are) (shapeCounts-only (height M) (length counts) N s levels room counts refl refl (w .holds) (w .unused))));
+      }
 
-    pub store-test : storeTest entries store ≡ sheetTest capacity store
-    store-test =
-        tests-agree (storeTest entries store) (sheetTest capacity store)
-        (λ h. sheet-test capacity roomy store (store-sound h))
-        (λ h. let w = test-sheet capacity store h in rw (w .laid) (layOut-test capacity roomy (w .list) (w .shape) (w .valid)))
+  -- The counts by range number of a sheet are those of its shape.
+  sheet-counts : (w : IsSheet cap store) → counts ≡ shapeCounts (cap .counts) (length (w .list)) (w .shape)
+  sheet-counts w =
+      let s = w .shape in
+      let size : getD counts 0 0 ≡ s .size
+      = sym (countOrder-size (height (getD counts 0 0)) counts)
+      ∙ ap (λ (t : Store). getD (t .counts) 0 0) (w .laid) ∙ size-layOut cap (w .list) s (w .valid) roomy in
+      let fits : 2 * 2 ^ height (getD counts 0 0) ≤ length counts
+      = rw (size, counts-are) (roomy .counts-fit (length (w .list)) (s .size) (w .valid .room) (w .valid .shape .allowed)) in
+      sym (numbered-given all counts fits) ∙ ap numbered (w .laid) ∙ numbered-layOut cap (w .list) s (w .valid) roomy
+
+  sheet-meets : IsSheet cap store → storeTest (cap .entries) all counts ≡ true
+  unfolding layOut
+  sheet-meets w =
+      rw (ap (λ (t : Store). t .slots) (w .laid), sheet-counts w) (laid-test cap roomy (w .list) (w .shape) (w .valid))
+
+  pub store-test : storeTest (cap .entries) all counts ≡ sheetTest cap store
+  store-test =
+      tests-agree (storeTest (cap .entries) all counts) (sheetTest cap store)
+      (λ h. sheet-test cap roomy store (store-sound h))
+      (λ h. sheet-meets (test-sheet cap store h))

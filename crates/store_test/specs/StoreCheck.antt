@@ -14,8 +14,11 @@ use Rattle.base.specs.CaseLaws.{le-or-gt}
 use Rattle.tree_sizes.specs.Sizes.{Allowed, height, leafSlots, slots}
 use Rattle.tree_sizes.specs.SizeLaws.{leafSlots-most, height-most, height-small}
 use Rattle.tree_sizes.specs.Fit.{fit}
-use Rattle.store_layout.specs.Sheet.{sheetTest}
-use Rattle.store_layout.specs.Room.{Roomy}
+use Rattle.tree_counts.specs.Counts.{shapeIn}
+use Rattle.store_layout.specs.declared.Capacity.{Capacity}
+use Rattle.store_layout.specs.CountOrder.{countOrder}
+use Rattle.store_layout.specs.Decode.{sheetTest}
+use Rattle.store_layout.specs.Room.{CapacityReady}
 use Rattle.store_test.specs.Ready.{LeavesTestReady, TreeTestReady, CountsTestReady, SlotsTestReady}
 use Rattle.store_zeros.specs.AllZero.{allZero}
 use Rattle.store_test.specs.Check.{leavesTest, treeTest, countsTest, slotsTest, storeTest}
@@ -126,28 +129,35 @@ module _ {all counts : List ℕ} (ready : SlotsTestReady all counts) where
 
 -- ---- the store
 
-module _ (entries : ℕ) (all counts : List ℕ) (few : entries < 2 ^ 30)
-    (roomy : Roomy record { entries = entries; slots = length all; counts = length counts }) where
-  pub slots-ready : countsTest entries counts ≡ true → SlotsTestReady all counts
+pub counts-ready : {cap : Capacity} → CapacityReady cap → (counts : List ℕ) → length counts ≡ cap .counts
+    → CountsTestReady (cap .entries) counts
+counts-ready ready counts counts-are = record {
+  few = ready .few;
+  room = λ N M few allowed. rw counts-are (ready .roomy .counts-fit N M few allowed);
+}
+
+module _ {cap : Capacity} (ready : CapacityReady cap) (all counts : List ℕ)
+    (slots-are : length all ≡ cap .slots) (counts-are : length counts ≡ cap .counts) where
+  pub slots-ready : countsTest (cap .entries) counts ≡ true → SlotsTestReady all counts
+  unfolding shapeIn
   slots-ready h =
-      let w = counts-sound entries counts h in
-      let room = roomy .counts-fit (getD counts 1 0) (getD counts 0 0) (w .few) (w .shape .allowed) in record {
-        most = omega (arith, w .few, w .shape .allowed .most);
-        slots-room = roomy .slots-fit (getD counts 1 0) (getD counts 0 0) (w .few) (w .shape .allowed);
+      let w = counts-sound (cap .entries) counts h in
+      let room = counts-ready ready counts counts-are .room (getD counts 1 0) (getD counts 0 0) (w .few) (w .shape .allowed) in record {
+        most = omega (arith, w .few, w .shape .allowed .most, ready .few);
+        slots-room = rw slots-are (ready .roomy .slots-fit (getD counts 1 0) (getD counts 0 0) (w .few) (w .shape .allowed));
         counts-room = room;
-        fit = held-fit entries counts w room;
+        fit = held-fit (cap .entries) counts w room;
       }
 
-  module _ {c : Bool} (c-is : c ≡ countsTest entries counts) where
-    sheet-is : sheetTest (record { entries = entries; slots = length all; counts = length counts }) (record { slots = all; counts = counts })
-        ≡ (c && slotsTest all counts)
+  module _ {c : Bool} (c-is : c ≡ countsTest (cap .entries) counts) where
+    sheet-is : sheetTest cap (record { slots = all; counts = countOrder (height (getD counts 0 0)) counts }) ≡ (c && slotsTest all counts)
     unfolding storeTest
-    sheet-is = sym (store-test entries all counts roomy) ∙ rw c-is
+    sheet-is = sym (store-test cap (ready .roomy) all counts slots-are counts-are) ∙ rw c-is
 
     pub sheet-broken : c ≡ false
-        → sheetTest (record { entries = entries; slots = length all; counts = length counts }) (record { slots = all; counts = counts }) ≡ false
+        → sheetTest cap (record { slots = all; counts = countOrder (height (getD counts 0 0)) counts }) ≡ false
     sheet-broken e = sheet-is ∙ rw e
 
     pub sheet-rest : c ≡ true → {r : Bool} → r ≡ slotsTest all counts
-        → sheetTest (record { entries = entries; slots = length all; counts = length counts }) (record { slots = all; counts = counts }) ≡ r
+        → sheetTest cap (record { slots = all; counts = countOrder (height (getD counts 0 0)) counts }) ≡ r
     sheet-rest e r-is = sheet-is ∙ rw (e, r-is)

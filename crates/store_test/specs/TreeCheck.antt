@@ -2,16 +2,16 @@
 use mathlib.Core.Path.{_≡_, refl, sym, ap, _∙_}
 use mathlib.Core.Bool.{Bool, true, false, _&&_}
 use mathlib.Core.List.{List}
-use Prim.Native.Nat.{ℕ, zero, suc, _+_, _-_, _*_, _/_, _^_, _≤_, _<_}
+use Prim.Native.Nat.{ℕ, zero, suc, _+_, _-_, _*_, _^_, _≤_, _<_}
 use lib.Dec.{eqb, leb, ltb}
 use lib.ListN.{length, getD}
 use lib.Pow.{pow-pos}
-use native.Mathlib.Nat.{mul-assoc, mul-le-mul-left, pow-suc, pow-succ'}
+use native.Mathlib.Nat.{mul-le-mul-left, pow-succ'}
 use native.Mathlib.Omega.{arith}
 use borrow.Author.Tests.{eq-eqb, eqb-true, le-leb, leb-true, lt-leb, lt-ltb, ltb-true, le-ltb}
 use Rattle.base.specs.BoolLaws.{and-both}
-use Rattle.tree_sizes.specs.Sizes.{digits, candidates, windowStart, IsCandidate, Fits}
-use Rattle.tree_sizes.specs.SizeLaws.{Ceiling, ceiling-least, candidates-are, window-fits}
+use Rattle.tree_sizes.specs.Sizes.{candidates, halfCandidates, windowStart, IsCandidate, Fits}
+use Rattle.tree_sizes.specs.SizeLaws.{candidates-half, window-fits}
 use Rattle.tree_sizes.specs.Fit.{fits-count, fits-halves}
 use Rattle.tree_rules.specs.Tree.{Tree, leaf, node, Balanced}
 use Rattle.tree_counts.specs.Counts.{readTree, Holds}
@@ -93,21 +93,6 @@ tree-test counts M (suc levels) d k n (node b l r) w h =
 
 -- ---- half as many candidates
 
-candidates-half : (M d : ℕ) → candidates M (suc d) ≡ candidates M d - candidates M d / 2
-candidates-half M d =
-    let c = candidates M d in
-    let c′ = candidates M (suc d) in
-    let S = 4 * digits M * 2 ^ d in
-    let twice : 4 * digits M * 2 ^ suc d ≡ S * 2 = rw (pow-suc 2 d) (sym (mul-assoc (4 * digits M) (2 ^ d) 2)) in
-    let here : Ceiling M S c = candidates-are M d in
-    let below : Ceiling M (S * 2) c′ = rw twice at (candidates-are M (suc d)) in
-    let doubled : c ≤ 2 * (c - c / 2) = omega arith in
-    let most : c′ ≤ c - c / 2
-    = ceiling-least M (S * 2) c′ below (c - c / 2)
-    (omega (arith, here .enough, mul-le-mul-left S doubled)) in
-    let least : c ≤ 2 * c′ = ceiling-least M S c here (2 * c′) (omega (arith, below .enough)) in
-    omega (arith, most, least)
-
 pub branch-is : (counts : List ℕ) (M levels d k : ℕ) → branchTest counts (candidates M d) levels k ≡ treeTest counts M levels d k
 unfolding branchTest treeTest
 branch-is counts M zero d k = refl
@@ -132,7 +117,9 @@ one-less levels some = omega arith
 
 module _ {counts : List ℕ} {c levels k : ℕ} (w : BranchTestReady counts c levels k) (some : levels ≡ 0 → ⊥) where
   halves-are : branchTest counts c levels k
-      ≡ (rangeTest counts c k && branchTest counts (c - c / 2) (levels - 1) (2 * k) && branchTest counts (c - c / 2) (levels - 1) (2 * k + 1))
+      ≡ (rangeTest counts c k
+      && branchTest counts (halfCandidates c) (levels - 1) (2 * k)
+      && branchTest counts (halfCandidates c) (levels - 1) (2 * k + 1))
   unfolding branchTest
   halves-are = ap (λ (l : ℕ). branchTest counts c l k) (sym (one-less levels some))
 
@@ -152,7 +139,7 @@ module _ {counts : List ℕ} {c levels k : ℕ} (w : BranchTestReady counts c le
     pub branch-own : own ≡ false → branchTest counts c levels k ≡ false
     branch-own e = halves-are ∙ rw (← own-is, e)
 
-    module _ (own-true : own ≡ true) where
+    module _ (own-true : own ≡ true) {below : ℕ} (below-is : below ≡ halfCandidates c) where
       found : IsCandidate (getD counts k 0) c (getD counts (2 * k) 0)
           × (getD counts (2 * k + 1) 0 ≡ getD counts k 0 - getD counts (2 * k) 0)
       found = range-sound counts c k (sym own-is ∙ own-true)
@@ -163,25 +150,25 @@ module _ {counts : List ℕ} {c levels k : ℕ} (w : BranchTestReady counts c le
           fits-halves (w .size) (levels - 1) (w .depth) (getD counts k 0) fits-here (getD counts (2 * k) 0) (rw (← w .c-is) (found .0))
 
       half-ready : (j : ℕ) → (j + 1) * 2 ^ (levels - 1) ≤ length counts → Fits (w .size) (levels - 1) (suc (w .depth)) (getD counts j 0)
-          → BranchTestReady counts (c - c / 2) (levels - 1) j
+          → BranchTestReady counts below (levels - 1) j
       half-ready j room fits = record {
         size = w .size;
         depth = suc (w .depth);
-        c-is = rw (w .c-is) (sym (candidates-half (w .size) (w .depth)));
+        c-is = below-is ∙ rw (w .c-is) (sym (candidates-half (w .size) (w .depth)));
         room = room;
         fits = fits;
       }
 
-      pub left-ready : BranchTestReady counts (c - c / 2) (levels - 1) (2 * k)
+      pub left-ready : BranchTestReady counts below (levels - 1) (2 * k)
       left-ready = half-ready (2 * k) (omega (arith, room-halves, pow-pos (levels - 1))) (fits-below .0)
 
-      pub right-ready : BranchTestReady counts (c - c / 2) (levels - 1) (2 * k + 1)
+      pub right-ready : BranchTestReady counts below (levels - 1) (2 * k + 1)
       right-ready = half-ready (2 * k + 1) (omega (arith, room-halves)) (rw (found .1) (fits-below .1))
 
-      module _ {left : Bool} (left-is : left ≡ branchTest counts (c - c / 2) (levels - 1) (2 * k)) where
+      module _ {left : Bool} (left-is : left ≡ branchTest counts below (levels - 1) (2 * k)) where
         pub branch-left : left ≡ false → branchTest counts c levels k ≡ false
-        branch-left e = halves-are ∙ rw (← own-is, own-true, ← left-is, e)
+        branch-left e = halves-are ∙ rw (← own-is, own-true, ← below-is, ← left-is, e)
 
-        pub branch-right : left ≡ true → {right : Bool} → right ≡ branchTest counts (c - c / 2) (levels - 1) (2 * k + 1)
+        pub branch-right : left ≡ true → {right : Bool} → right ≡ branchTest counts below (levels - 1) (2 * k + 1)
             → branchTest counts c levels k ≡ right
-        branch-right e right-is = halves-are ∙ rw (← own-is, own-true, ← left-is, e, ← right-is)
+        branch-right e right-is = halves-are ∙ rw (← own-is, own-true, ← below-is, ← left-is, e, ← right-is)

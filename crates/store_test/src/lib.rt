@@ -1,12 +1,15 @@
 // The test whether a store is a sheet: the counts range by range, the slots leaf by leaf, and that everything unused is zero.
 ghost use mathlib.Core.Path.{_≡_};
 ghost use Prim.Native.Nat.{_+_, _-_, _*_, _^_, _≤_, _<_};
-ghost use lib.ListN.{length, take, drop};
+ghost use lib.ListN.{length, getD, take, drop};
 ghost use Rattle.store_layout.specs.Leaf.{nonzero};
-ghost use Rattle.store_layout.specs.Sheet.{sheetTest};
-ghost use Rattle.store_layout.specs.Room.{Roomy};
+ghost use Rattle.store_layout.specs.Decode.{sheetTest};
+ghost use Rattle.store_layout.specs.Room.{CapacityReady};
+ghost use Rattle.store_layout.specs.CountOrder.{countOrder};
+ghost use Rattle.tree_sizes.specs.Sizes.{height};
 ghost use Rattle.store_test.specs.Ready.{LeafTestReady, LeavesTestReady, RangeTestReady, BranchTestReady, TreeTestReady, CountsTestReady, SlotsTestReady};
 ghost use Rattle.store_test.specs.Check.{leafTest, leavesTest, rangeTest, branchTest, treeTest, countsTest, slotsTest};
+use store_layout::Capacity;
 use store_layout::count_at;
 use tree_sizes::Size;
 use tree_sizes::window_start;
@@ -98,7 +101,7 @@ fn branch_is_balanced(c: usize, levels: usize, k: usize, counts: &[u32]) -> bool
     if !range_is_balanced(c, k, counts) {
         return false;
     }
-    let below = c - c / 2;
+    let below = Size::half_candidates(c);
     if !branch_is_balanced(below, levels - 1, 2 * k, counts) {
         return false;
     }
@@ -119,7 +122,7 @@ fn tree_is_balanced(m: usize, h: usize, counts: &[u32]) -> bool
 }
 
 // The greatest size parameter that n entries can have.
-fn greatest_size(n: usize) -> usize
+pub fn greatest_size(n: usize) -> usize
     requires few { ⌜ n < 2 ^ 30 ⌝ }
     ensures { λ r. ⌜ r ≡ 2 * n - 1 ⌝ }
 {
@@ -169,15 +172,19 @@ fn slots_are_laid(slots: &[u64], counts: &[u32]) -> bool
     store_zeros::slots_are_zero(slots, s * leaves)
 }
 
-// The store is a sheet.
-pub fn is_sheet(entries: usize, slots: &[u64], counts: &[u32]) -> bool
-    requires few { ⌜ entries < 2 ^ 30 ⌝ }
-    requires roomy { ⌜ Roomy (record { entries = entries; slots = length (now slots); counts = length (now counts) }) ⌝ }
+// The store with these slots, and these counts by range number, is a sheet.
+pub fn is_sheet(cap: Capacity, slots: &[u64], counts: &[u32]) -> bool
+    requires ready { ⌜ CapacityReady cap ⌝ }
+    requires slots { ⌜ length (now slots) ≡ cap .slots ⌝ }
+    requires counts { ⌜ length (now counts) ≡ cap .counts ⌝ }
     ensures { λ r. ⌜ r
-        ≡ sheetTest
-        (record { entries = entries; slots = length (now (slots .entry)); counts = length (now (counts .entry)) })
-        (record { slots = now (slots .entry); counts = now (counts .entry) }) ⌝ }
+        ≡ sheetTest cap
+        (record {
+          slots = now (slots .entry);
+          counts = countOrder (height (getD (now (counts .entry)) 0 0)) (now (counts .entry));
+        }) ⌝ }
 {
+    let entries = cap.entries;
     if !counts_are_shaped(entries, counts) {
         return false;
     }

@@ -52,12 +52,12 @@ live-rebuild M (suc levels) d n fits = (
 -- ---- a visit
 
 -- What a live program does before a visit that does not look at it is only seen below it.
-pub bind-visit : {A : Type 0} (p : Program A) (comparison : Comparison) (c b : ℕ) (anew : Program Tree) (halves : ℕ → Program Tree) (below : A → Program Tree)
-    → Live p → (p >>= λ a. visit comparison c b anew halves (below a)) ≈ visit comparison c b anew halves (p >>= below)
+pub bind-visit : {A : Type 0} (p : Program A) (comparison : Comparison) (c b : ℕ) (rebuilt : Program Tree) (halves : ℕ → Program Tree) (below : A → Program Tree)
+    → Live p → (p >>= λ a. visit comparison c b rebuilt halves (below a)) ≈ visit comparison c b rebuilt halves (p >>= below)
 unfolding visit
-bind-visit p Unchanged c b anew halves below l = ≈-refl (p >>= below)
-bind-visit {A} p (Swapped out into) c b anew halves below l =
-    choose b out anew (λ a. draw c (λ face. ifEq face 0 (halves into) (below a))) (draw c (λ face. ifEq face 0 (halves into) (p >>= below)))
+bind-visit p Unchanged c b rebuilt halves below l = ≈-refl (p >>= below)
+bind-visit {A} p (Swapped out into) c b rebuilt halves below l =
+    choose b out rebuilt (λ a. draw c (λ face. ifEq face 0 (halves into) (below a))) (draw c (λ face. ifEq face 0 (halves into) (p >>= below)))
     (≈-trans (draw-commutes c p (λ face a. ifEq face 0 (halves into) (below a)))
     (draw-cong c (λ face _. choose face 0 (halves into) below (p >>= below) (≈-refl (p >>= below)))))
   where
@@ -70,16 +70,16 @@ bind-visit {A} p (Swapped out into) c b anew halves below l =
 
 -- A visit at the root of a range whose halves were rebuilt.
 pub join-visit : (b : ℕ) (p q : Program Tree) (k : Tree → Program Tree)
-    (comparison : Comparison) (c : ℕ) (anew : Program Tree) (halves : ℕ → Program Tree) (below : Tree → Tree → Program Tree)
+    (comparison : Comparison) (c : ℕ) (rebuilt : Program Tree) (halves : ℕ → Program Tree) (below : Tree → Tree → Program Tree)
     → Live p → Live q
-    → ((l r : Tree) → k (node b l r) ≡ visit comparison c b anew halves (below l r))
-    → (join b p q >>= k) ≈ visit comparison c b anew halves (p >>= λ l. q >>= λ r. below l r)
+    → ((l r : Tree) → k (node b l r) ≡ visit comparison c b rebuilt halves (below l r))
+    → (join b p q >>= k) ≈ visit comparison c b rebuilt halves (p >>= λ l. q >>= λ r. below l r)
 unfolding join
-join-visit b p q k comparison c anew halves below lp lq h =
+join-visit b p q k comparison c rebuilt halves below lp lq h =
     ≈-trans (≈-path (bind-bind p (λ l. q >>= λ r. done (node b l r)) k))
     (≈-trans
     (bind-cong-right p (λ l.
     ≈-trans (≈-path (bind-bind q (λ r. done (node b l r)) k))
     (≈-trans (bind-cong-right q (λ r. ≈-path (done-bind (node b l r) k ∙ h l r)))
-    (bind-visit q comparison c b anew halves (below l) lq))))
-    (bind-visit p comparison c b anew halves (λ l. q >>= below l) lp))
+    (bind-visit q comparison c b rebuilt halves (below l) lq))))
+    (bind-visit p comparison c b rebuilt halves (λ l. q >>= below l) lp))

@@ -3,7 +3,6 @@ use mathlib.Core.Path.{refl}
 use mathlib.Core.Logic.{⊎-elim}
 use Prim.Native.Nat.{ℕ, zero, suc, _+_, _-_, _≤_, _<_}
 use native.Mathlib.Omega.{arith}
-use Rattle.base.specs.Cases.{ifLt}
 use Rattle.base.specs.CaseLaws.{ifLt-yes, ifLt-no, lt-or-ge}
 use Rattle.draw_shares.specs.Program.{Program, done, _>>=_}
 use Rattle.draw_shares.specs.Same.{_≈_}
@@ -12,22 +11,15 @@ use Rattle.tree_sizes.specs.Sizes.{candidates, windowStart, Fits}
 use Rattle.tree_sizes.specs.SizeLaws.{candidate-face, candidate-below}
 use Rattle.tree_sizes.specs.Fit.{fits-pos, fits-count, fits-halves}
 use Rattle.tree_rules.specs.declared.Change.{Change}
-use Rattle.tree_rules.specs.Tree.{Tree, leaf, node}
+use Rattle.tree_rules.specs.Tree.{Tree, leaf}
 use Rattle.tree_rules.specs.Compare.{countAfter, compare}
 use Rattle.tree_rules.specs.Moves.{rankNow, GoesOut}
 use Rattle.tree_rules.specs.MoveLaws.{moves, visit-keeps}
 use Rattle.tree_rules.specs.ChangeLaws.{right-reach, right-after, right-now, left-reach, left-count, left-now}
-use Rattle.tree_rules.specs.Rules.{InReach, rebuild, rebuildHalves, rankOf, atRank, walk}
+use Rattle.tree_rules.specs.Rules.{InReach, rebuild, rebuildHalves, rankOf, atRank, walkHalf, walk}
 use Rattle.tree_canonical.specs.VisitLaws.{join-cong, join-left, join-right, live-rebuild, join-visit}
 
 -- ---- below a range whose balance entry stays
-
--- the range below a visit, as the walk goes on
-abbrev below : ℕ → ℕ → ℕ → Change → ℕ → ℕ → Tree → Tree → Program Tree
-below M levels d change n b l r =
-    ifLt b (rankOf change)
-    (walk M levels (suc d) (atRank change (rankOf change - b)) (n - b) r >>= λ r′. done (node b l r′))
-    (walk M levels (suc d) change b l >>= λ l′. done (node (countAfter change b) l′ r))
 
 module _ (M levels d : ℕ)
     (keeps : (change : Change) (n : ℕ) → InReach change n → Fits M levels (suc d) n → Fits M levels (suc d) (countAfter change n)
@@ -38,8 +30,8 @@ module _ (M levels d : ℕ)
   below-keeps : (change : Change) (n b : ℕ) → InReach change n → b ≤ n → ¬ GoesOut change b
       → Fits M levels (suc d) b × Fits M levels (suc d) (n - b)
       → Fits M levels (suc d) (rankNow change b) × Fits M levels (suc d) (countAfter change n - rankNow change b)
-      → (half b >>= λ l. half (n - b) >>= λ r. below M levels d change n b l r) ≈ rebuildHalves M levels d (countAfter change n) (rankNow change b)
-  unfolding rebuildHalves
+      → (half b >>= λ l. half (n - b) >>= λ r. walkHalf (walk M levels (suc d)) change n b l r) ≈ rebuildHalves M levels d (countAfter change n) (rankNow change b)
+  unfolding rebuildHalves walkHalf
   below-keeps change n b reach few stays old new =
       ⊎-elim
       (λ (h : b < rankOf change).
@@ -73,10 +65,10 @@ walk-keeps M (suc levels) d change n reach old new =
     let b = windowStart n c + f in
     let halves = fits-halves M levels d n old b (candidate-face n c f l) in
     join-visit b (rebuild M levels (suc d) b) (rebuild M levels (suc d) (n - b)) (walk M (suc levels) d change n)
-    (compare change n c) c (rebuild M (suc levels) d (countAfter change n)) (rebuildHalves M levels d (countAfter change n)) (below M levels d change n b)
+    (compare change n c) c (rebuild M (suc levels) d (countAfter change n)) (rebuildHalves M levels d (countAfter change n)) (walkHalf (walk M levels (suc d)) change n b)
     (live-rebuild M levels (suc d) b (halves .0)) (live-rebuild M levels (suc d) (n - b) (halves .1)) (λ t r. refl)))
     (visit-keeps change n c (compare change n c) (rebuildHalves M levels d (countAfter change n))
-    (λ b. rebuild M levels (suc d) b >>= λ l. rebuild M levels (suc d) (n - b) >>= λ r. below M levels d change n b l r) m
+    (λ b. rebuild M levels (suc d) b >>= λ l. rebuild M levels (suc d) (n - b) >>= λ r. walkHalf (walk M levels (suc d)) change n b l r) m
     (λ b candidate ne.
     below-keeps M levels d (λ ch k. walk-keeps M levels (suc d) ch k) change n b reach
     (omega (arith, candidate-below n c b (fits-count M levels d n old) candidate))

@@ -3,6 +3,7 @@ use mathlib.Core.Path.{_≡_}
 use mathlib.Core.List.{List}
 use Prim.Native.Nat.{ℕ, zero, suc, _+_, _-_, _*_, _≤_}
 use lib.ListN.{getD, set, replicate}
+use Rattle.tree_sizes.specs.Sizes.{height}
 use Rattle.tree_rules.specs.Tree.{Tree, leaf, node, Shape}
 use Rattle.tree_counts.specs.Ranges.{Below}
 
@@ -29,3 +30,7 @@ SameBelow levels k xs ys = (d j : ℕ) → d ≤ levels → Below k d j → getD
 -- All counts of a shape with N entries: the size parameter at 0, the root at 1, and 0 at every number that is not in use.
 unfoldable pub shapeCounts : ℕ → ℕ → Shape → List ℕ
 shapeCounts room N s = writeTree (set (replicate room 0) 0 (s .size)) 1 N (s .tree)
+
+-- The shape that counts hold, by range number: count 0 is the size parameter.
+unfoldable pub shapeIn : List ℕ → Shape
+shapeIn counts = record { size = getD counts 0 0; tree = readTree (height (getD counts 0 0)) counts 1 }

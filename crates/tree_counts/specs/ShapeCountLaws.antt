@@ -9,9 +9,10 @@ use lib.Seq.{getD-set-same, getD-set-other, ext-getD}
 use native.Mathlib.Omega.{arith}
 use Rattle.base.specs.CaseLaws.{lt-or-ge}
 use Rattle.base.specs.ListLaws.{replicate-at}
+use Rattle.tree_sizes.specs.Sizes.{height}
 use Rattle.tree_rules.specs.Tree.{Shape}
 use Rattle.tree_counts.specs.Ranges.{Perfect}
-use Rattle.tree_counts.specs.Counts.{readTree, shapeCounts, Holds}
+use Rattle.tree_counts.specs.Counts.{readTree, shapeCounts, shapeIn, Holds}
 use Rattle.tree_counts.specs.RangeLaws.{below-least, below-root}
 use Rattle.tree_counts.specs.CountLaws.{holds-count, holds-read, holds-agree, length-write, write-other, write-holds}
 
@@ -65,3 +66,10 @@ module _ (levels room N : ℕ) (s : Shape) (has : Perfect levels (s .tree)) (fit
           holds-agree levels counts (shapeCounts room N s) 1 N (s .tree) has holds shapeCounts-holds (w .0) (suc j) (w .1) (w .2))
           (λ (l : 2 * 2 ^ levels ≤ suc j). unused (suc j) l ∙ sym (shapeCounts-unused (suc j) l))
           (lt-or-ge (suc j) (2 * 2 ^ levels))
+
+-- The shape is the one that its counts hold.
+module _ (room N : ℕ) (s : Shape) (has : Perfect (height (s .size)) (s .tree)) (fits : 2 * 2 ^ height (s .size) ≤ room) where
+  pub shapeIn-shapeCounts : shapeIn (shapeCounts room N s) ≡ s
+  unfolding shapeIn
+  shapeIn-shapeCounts =
+      rw (shapeCounts-size (height (s .size)) room N s has fits, shapeCounts-read (height (s .size)) room N s has fits)

@@ -10,60 +10,6 @@ use Rattle.tree_rules.specs.declared.Comparison.the-variants.{Unchanged,
 use Rattle.tree_rules.specs.Tree.{Tree, leaf, node, Shape}
 use Rattle.tree_rules.specs.Compare.{countAfter, compare}
 
--- ---- rebuilding
-
--- A range with the balance rank b: first its left half, then its right half.
-unfoldable pub join : ℕ → Program Tree → Program Tree → Program Tree
-join b left right = left >>= λ l. right >>= λ r. done (node b l r)
-
--- Rebuilding a range of n entries at depth d, `levels` above the leaves: its balance entry is drawn (face f: candidate f, from 0), then
--- its left half and then its right half in the same way; a leaf draws nothing.
-unfoldable pub rebuild : ℕ → ℕ → ℕ → ℕ → Program Tree
-rebuild M zero d n = done leaf
-rebuild M (suc levels) d n =
-    draw (candidates M d) (λ face.
-    let b = windowStart n (candidates M d) + face in
-    join b (rebuild M levels (suc d) b) (rebuild M levels (suc d) (n - b)))
-
--- Both halves of a range rebuilt, with the balance entry of rank b.
-unfoldable pub rebuildHalves : ℕ → ℕ → ℕ → ℕ → ℕ → Program Tree
-rebuildHalves M levels d n b = join b (rebuild M levels (suc d) b) (rebuild M levels (suc d) (n - b))
-
--- ---- the walk down, where M was kept
-
--- At a range with c candidates and the balance entry b. The balance entry leaves: rebuild this range. Another leaves: draw among c;
--- face 0 makes the entering one the balance entry and rebuilds both halves; otherwise nothing changes here. Unchanged: no draw.
-unfoldable pub visit : Comparison → ℕ → ℕ → Program Tree → (ℕ → Program Tree) → Program Tree → Program Tree
-visit Unchanged c b anew halves below = below
-visit (Swapped out into) c b anew halves below = ifEq b out anew (draw c (λ face. ifEq face 0 (halves into) below))
-
--- The rank at which an entry comes in or goes out, and the same change at another rank.
-unfoldable pub rankOf : Change → ℕ
-rankOf (Insert i) = i
-rankOf (Delete i) = i
-
-unfoldable pub atRank : Change → ℕ → Change
-atRank (Insert i) j = Insert j
-atRank (Delete i) j = Delete j
-
--- The rank is one at which an entry can come in or go out of n.
-unfoldable pub InReach : Change → ℕ → Type 0
-InReach (Insert i) n = i ≤ n
-InReach (Delete i) n = i < n
-
--- From a range down: into the half that gains or loses the entry, to a leaf. An entry inserted directly before the balance entry joins
--- the left half. (The entry that goes out is not the balance entry here: then the range was rebuilt.)
-unfoldable pub walk : ℕ → ℕ → ℕ → Change → ℕ → Tree → Program Tree
-walk M zero d change n t = done leaf
-walk M (suc levels) d change n leaf = done leaf
-walk M (suc levels) d change n (node b l r) =
-    visit (compare change n (candidates M d)) (candidates M d) b
-    (rebuild M (suc levels) d (countAfter change n))
-    (rebuildHalves M levels d (countAfter change n))
-    (ifLt b (rankOf change)
-    (walk M levels (suc d) (atRank change (rankOf change - b)) (n - b) r >>= λ r′. done (node b l r′))
-    (walk M levels (suc d) change b l >>= λ l′. done (node (countAfter change b) l′ r)))
-
 -- ---- the size step
 
 -- The size parameter is kept, or set anew, even if to an equal value.
@@ -92,6 +38,65 @@ sizeStep (Delete i) N M = deleteSize N M
 unfoldable pub sizeAfter : ℕ → SizeStep → ℕ
 sizeAfter M kept = M
 sizeAfter M (anew M′) = M′
+
+-- ---- rebuilding
+
+-- A range with the balance rank b: first its left half, then its right half.
+unfoldable pub join : ℕ → Program Tree → Program Tree → Program Tree
+join b left right = left >>= λ l. right >>= λ r. done (node b l r)
+
+-- Rebuilding a range of n entries at depth d, `levels` above the leaves: its balance entry is drawn (face f: candidate f, from 0), then
+-- its left half and then its right half in the same way; a leaf draws nothing.
+unfoldable pub rebuild : ℕ → ℕ → ℕ → ℕ → Program Tree
+rebuild M zero d n = done leaf
+rebuild M (suc levels) d n =
+    draw (candidates M d) (λ face.
+    let b = windowStart n (candidates M d) + face in
+    join b (rebuild M levels (suc d) b) (rebuild M levels (suc d) (n - b)))
+
+-- Both halves of a range rebuilt, with the balance entry of rank b.
+unfoldable pub rebuildHalves : ℕ → ℕ → ℕ → ℕ → ℕ → Program Tree
+rebuildHalves M levels d n b = join b (rebuild M levels (suc d) b) (rebuild M levels (suc d) (n - b))
+
+-- ---- the walk down, where M was kept
+
+-- At a range with c candidates and the balance entry b. The balance entry leaves: rebuild this range. Another leaves: draw among c;
+-- face 0 makes the entering one the balance entry and rebuilds both halves; otherwise nothing changes here. Unchanged: no draw.
+unfoldable pub visit : Comparison → ℕ → ℕ → Program Tree → (ℕ → Program Tree) → Program Tree → Program Tree
+visit Unchanged c b rebuilt halves below = below
+visit (Swapped out into) c b rebuilt halves below = ifEq b out rebuilt (draw c (λ face. ifEq face 0 (halves into) below))
+
+-- The rank at which an entry comes in or goes out, and the same change at another rank.
+unfoldable pub rankOf : Change → ℕ
+rankOf (Insert i) = i
+rankOf (Delete i) = i
+
+unfoldable pub atRank : Change → ℕ → Change
+atRank (Insert i) j = Insert j
+atRank (Delete i) j = Delete j
+
+-- The rank is one at which an entry can come in or go out of n.
+unfoldable pub InReach : Change → ℕ → Type 0
+InReach (Insert i) n = i ≤ n
+InReach (Delete i) n = i < n
+
+-- Into the half of a range, with the balance rank b, that gains or loses the entry. An entry inserted directly before the balance entry
+-- joins the left half. (The entry that goes out is not the balance entry here: then the range was rebuilt.)
+unfoldable pub walkHalf : (Change → ℕ → Tree → Program Tree) → Change → ℕ → ℕ → Tree → Tree → Program Tree
+walkHalf below change n b l r =
+    ifLt b (rankOf change)
+    (below (atRank change (rankOf change - b)) (n - b) r >>= λ r′. done (node b l r′))
+    (below change b l >>= λ l′. done (node (countAfter change b) l′ r))
+
+-- From a range down, to a leaf.
+unfoldable pub walk : ℕ → ℕ → ℕ → Change → ℕ → Tree → Program Tree
+walk M zero d change n t = done leaf
+walk M (suc levels) d change n leaf = done leaf
+walk M (suc levels) d change n (node b l r) =
+    visit (compare change n (candidates M d)) (candidates M d) b
+    (rebuild M (suc levels) d (countAfter change n))
+    (rebuildHalves M levels d (countAfter change n))
+    (walkHalf (walk M levels (suc d)) change n b l r)
 
 -- ---- insert and delete
 

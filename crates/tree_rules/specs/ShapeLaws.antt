@@ -14,7 +14,7 @@ use Rattle.tree_rules.specs.declared.Comparison.{Comparison}
 use Rattle.tree_rules.specs.declared.Comparison.the-variants.{Unchanged, Swapped}
 use Rattle.tree_rules.specs.Compare.{countAfter, compare}
 use Rattle.tree_rules.specs.Tree.{Tree, leaf, node, Balanced, Shape, IsShape}
-use Rattle.tree_rules.specs.Rules.{join, rebuild, rebuildHalves, visit, rankOf, atRank, InReach, walk, SizeStep, kept, anew, grow, insertSize, shrink, deleteSize, sizeStep, sizeAfter, fresh, reshape, update}
+use Rattle.tree_rules.specs.Rules.{join, rebuild, rebuildHalves, visit, rankOf, atRank, InReach, walkHalf, walk, SizeStep, kept, anew, grow, insertSize, shrink, deleteSize, sizeStep, sizeAfter, fresh, reshape, update}
 use Rattle.tree_rules.specs.Moves.{rankNow, Leaves, Inside}
 use Rattle.tree_rules.specs.MoveLaws.{moves}
 use Rattle.tree_rules.specs.ChangeLaws.{right-reach, right-after, right-now, left-reach, left-count, left-now}
@@ -96,7 +96,7 @@ visit-ends R change n c (Swapped out into) b rebuilt halves below inside h k l =
 
 pub walk-ends : (M levels d : ℕ) (change : Change) (n : ℕ) (t : Tree) → InReach change n → Fits M levels d n → Fits M levels d (countAfter change n)
     → Balanced M levels d n t → Ends (Balanced M levels d (countAfter change n)) (walk M levels d change n t)
-unfolding walk Balanced Ends
+unfolding walk walkHalf Balanced Ends
 walk-ends M zero d change n t reach old new w = tt
 walk-ends M (suc levels) d change n leaf reach old new w = absurd w
 walk-ends M (suc levels) d change n (node b l r) reach old new w =

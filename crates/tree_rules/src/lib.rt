@@ -1,6 +1,6 @@
 // The rules of insert and delete: what a change does to the candidates of a range, and the size step.
 ghost use mathlib.Core.Path.{_≡_};
-ghost use Prim.Native.Nat.{_+_, _^_, _<_, min, max};
+ghost use Prim.Native.Nat.{_+_, _^_, _<_};
 ghost use Rattle.draw_shares.specs.Tape.{runAt};
 ghost use Rattle.tree_rules.specs.Compare.{compare};
 ghost use Rattle.tree_rules.specs.Swap.{insertSwap, reverse};
@@ -20,20 +20,6 @@ pub enum Comparison {
     Swapped { out: usize, into: usize },
 }
 
-// The larger of two numbers.
-fn larger(x: usize, y: usize) -> usize
-    ensures { λ r. ⌜ r ≡ max x y ⌝ }
-{
-    if x < y { y } else { x }
-}
-
-// The smaller of two numbers.
-fn smaller(x: usize, y: usize) -> usize
-    ensures { λ r. ⌜ r ≡ min x y ⌝ }
-{
-    if x < y { x } else { y }
-}
-
 // The comparison where an entry comes in at rank i: the c candidates are the ranks from `before` on, and after it those from `after` on,
 // which is `before` or one more.
 fn insert_swap(i: usize, before: usize, after: usize, c: usize) -> Comparison
@@ -45,7 +31,7 @@ fn insert_swap(i: usize, before: usize, after: usize, c: usize) -> Comparison
     let last = end - 1;
     if after == before {
         if i < end {
-            let into = larger(i, before);
+            let into = base::larger(i, before);
             return Comparison::Swapped {
                 out: last,
                 into: into,
@@ -54,7 +40,7 @@ fn insert_swap(i: usize, before: usize, after: usize, c: usize) -> Comparison
         return Comparison::Unchanged;
     }
     if before < i {
-        let into = smaller(i, end);
+        let into = base::smaller(i, end);
         return Comparison::Swapped {
             out: before,
             into: into,

@@ -7,8 +7,7 @@ use lib.Pow.{pow-pos, pow-mono}
 use native.Mathlib.Nat.{eq-or-lt-of-le, le-of-suc-le-suc, le-trans, mul-le-mul-left, not-suc-le-zero, pow-succ', le-refl, le-max-left, le-max-right}
 use native.Mathlib.Omega.{arith}
 use Rattle.base.specs.CaseLaws.{le-or-gt}
-use Rattle.base.specs.Cases.{ifLe}
-use Rattle.tree_sizes.specs.Sizes.{doublings, digits, height, leafSlots, slots}
+use Rattle.tree_sizes.specs.Sizes.{digits, height, slots}
 use Rattle.tree_sizes.specs.SizeLaws.{digits-unique, digits-pos, digits-top, digits-most, height-is, height-largest, height-small, leafSlots-small, leafSlots-large}
 
 -- ---- A size of g digits, and 2 ^ g
@@ -73,19 +72,3 @@ slots-most = greatest-most slots slots-power
 -- The counts in use are 2 * 2 ^ height M: the size and the ranges, whose numbers start at 1.
 pub counts-most : (k M : ℕ) → 0 < k → M ≤ 2 ^ k → 2 * 2 ^ height M ≤ greatest (λ m. 2 * 2 ^ height m) k
 counts-most = greatest-most (λ m. 2 * 2 ^ height m) (λ M. mul-le-mul-left 2 (pow-mono (height-power M)))
-
-pub slots-2047 : (M : ℕ) → M < 2048 → slots M ≤ 4224
-unfolding greatest slots leafSlots height digits doublings ifLe
-slots-2047 M h = slots-most 11 M (omega arith) (omega arith)
-
-pub counts-2047 : (M : ℕ) → M < 2048 → 2 * 2 ^ height M ≤ 256
-unfolding greatest height digits doublings ifLe
-counts-2047 M h = counts-most 11 M (omega arith) (omega arith)
-
-pub slots-131071 : (M : ℕ) → M < 131072 → slots M ≤ 208896
-unfolding greatest slots leafSlots height digits doublings ifLe
-slots-131071 M h = slots-most 17 M (omega arith) (omega arith)
-
-pub counts-131071 : (M : ℕ) → M < 131072 → 2 * 2 ^ height M ≤ 8192
-unfolding greatest height digits doublings ifLe
-counts-131071 M h = counts-most 17 M (omega arith) (omega arith)

@@ -1,14 +1,14 @@
 -- Laws of the size rules, for every size M: digits and height as powers of two define them, rounding up, and windows.
-use mathlib.Core.Path.{_≡_}
+use mathlib.Core.Path.{_≡_, sym}
 use mathlib.Core.Logic.{_⊎_, inl, inr, ⊎-elim}
 use Prim.Native.Nat.{ℕ, zero, suc, _+_, _-_, _*_, _/_, _^_, _≤_, _<_}
 use lib.Count.{leadingZeros, leading-top}
 use lib.Pow.{pow-pos, pow-mono}
-use native.Mathlib.Nat.{div-add-mod, le-trans, lt-of-not-le, mod-lt, mul-le-mul, mul-le-mul-left, mul-le-mul-right, mul-pos, pow-succ', zero-lt-suc}
+use native.Mathlib.Nat.{div-add-mod, le-trans, lt-of-not-le, mod-lt, mul-le-mul, mul-le-mul-left, mul-le-mul-right, mul-assoc, mul-pos, pow-suc, pow-succ', zero-lt-suc}
 use native.Mathlib.Omega.{arith}
 use borrow.Author.Tests.{le-leb, lt-leb}
 use Rattle.base.specs.CaseLaws.{ifLe-yes, ifLe-no, eq-or-ne, le-or-gt, lt-or-ge}
-use Rattle.tree_sizes.specs.Sizes.{doublings, ceilDiv, digits, height, leafSlots, slots, candidates, windowStart, IsCandidate}
+use Rattle.tree_sizes.specs.Sizes.{doublings, ceilDiv, digits, height, leafSlots, slots, candidates, halfCandidates, windowStart, IsCandidate}
 
 -- ---- Powers of two
 
@@ -204,6 +204,21 @@ candidates-are M d = ceilDiv-is M (4 * digits M * 2 ^ d) (step-pos M d)
 
 pub candidates-pos : (M d : ℕ) → 0 < M → 0 < candidates M d
 candidates-pos M d h = ceiling-pos M (4 * digits M * 2 ^ d) (candidates M d) (candidates-are M d) h
+
+pub candidates-half : (M d : ℕ) → candidates M (suc d) ≡ halfCandidates (candidates M d)
+unfolding halfCandidates ceilDiv
+candidates-half M d =
+    let c = candidates M d in
+    let c′ = candidates M (suc d) in
+    let S = 4 * digits M * 2 ^ d in
+    let twice : 4 * digits M * 2 ^ suc d ≡ S * 2 = rw (pow-suc 2 d) (sym (mul-assoc (4 * digits M) (2 ^ d) 2)) in
+    let here : Ceiling M S c = candidates-are M d in
+    let below : Ceiling M (S * 2) c′ = rw twice at (candidates-are M (suc d)) in
+    let doubled : c ≤ 2 * halfCandidates c = omega arith in
+    let most : c′ ≤ halfCandidates c
+    = ceiling-least M (S * 2) c′ below (halfCandidates c) (omega (arith, here .enough, mul-le-mul-left S doubled)) in
+    let least : c ≤ 2 * c′ = ceiling-least M S c here (2 * c′) (omega (arith, below .enough)) in
+    omega (arith, most, least)
 
 pub window-fits : (n c : ℕ) → c ≤ n → windowStart n c + c ≤ n
 unfolding windowStart ceilDiv

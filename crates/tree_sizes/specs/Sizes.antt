@@ -39,6 +39,10 @@ slots M = leafSlots M * 2 ^ height M
 unfoldable pub candidates : ℕ → ℕ → ℕ
 candidates M d = ceilDiv M (4 * digits M * 2 ^ d)
 
+-- The candidates of the halves of a range with c candidates, where they are no leaves: half as many, rounded up.
+unfoldable pub halfCandidates : ℕ → ℕ
+halfCandidates c = ceilDiv c 2
+
 -- The rank, from 0, of the first of c candidates among n entries. (Document 01 counts entries from 1.)
 unfoldable pub windowStart : ℕ → ℕ → ℕ
 windowStart n c = ceilDiv n 2 - ceilDiv c 2

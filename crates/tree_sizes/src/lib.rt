@@ -1,7 +1,7 @@
 // The size rules of document 01: what the size parameter M gives, and where the candidates of a range stand.
 ghost use mathlib.Core.Path.{_≡_};
 ghost use Prim.Native.Nat.{_^_, _<_, _≤_};
-ghost use Rattle.tree_sizes.specs.Sizes.{digits, height, leafSlots, slots, candidates, windowStart};
+ghost use Rattle.tree_sizes.specs.Sizes.{digits, height, leafSlots, slots, candidates, halfCandidates, windowStart};
 
 // 2 ^ k
 pub fn power(k: usize) -> usize
@@ -72,6 +72,13 @@ impl Size {
     {
         let step = 4 * self.digits() * power(depth);
         (self.m + (step - 1)) / step
+    }
+
+    // The number of candidates of each half of a range with c candidates, above the leaves: half of c, rounded up.
+    pub fn half_candidates(c: usize) -> usize
+        ensures { λ r. ⌜ r ≡ halfCandidates c ⌝ }
+    {
+        c - c / 2
     }
 }
 

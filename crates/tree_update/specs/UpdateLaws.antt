@@ -1,6 +1,6 @@
 -- Laws of the whole change: what the size step and the walk ask, and what they leave.
 use mathlib.Core.Path.{_≡_, refl, ap, sym, _∙_, subst}
-use mathlib.Core.Logic.{inl, inr}
+use mathlib.Core.Logic.{inl}
 use mathlib.Core.List.{List}
 use Prim.Native.Nat.{ℕ}
 use native.Mathlib.Omega.{arith}
@@ -12,39 +12,23 @@ use Rattle.tree_sizes.specs.Fit.{fit}
 use Rattle.tree_rules.specs.declared.Change.{Change}
 use Rattle.tree_rules.specs.declared.Stepped.{Stepped}
 use Rattle.tree_rules.specs.declared.Stepped.the-variants as stepped
-use Rattle.tree_rules.specs.Tree.{Tree, Balanced}
+use Rattle.tree_rules.specs.Tree.{Tree}
 use Rattle.tree_rules.specs.Compare.{countAfter}
-use Rattle.tree_rules.specs.Rules.{rebuild, walk, rankOf, SizeStep, kept, anew, sizeStep, sizeAfter, fresh, reshape, update}
+use Rattle.tree_rules.specs.Rules.{rebuild, rankOf, SizeStep, kept, anew, sizeStep, sizeAfter, fresh, reshape, update}
 use Rattle.tree_rules.specs.Step.{steppedAs}
 use Rattle.tree_rules.specs.ChangeLaws.{count-most}
-use Rattle.tree_rules.specs.ShapeLaws.{step-ends, walk-ends}
+use Rattle.tree_rules.specs.ShapeLaws.{step-ends}
 use Rattle.tree_counts.specs.declared.Rebuilt.{Rebuilt}
-use Rattle.tree_counts.specs.declared.Rebuilt.the-variants as rebuilt
-use Rattle.tree_walk.specs.declared.Walked.{Walked}
-use Rattle.tree_walk.specs.declared.Walked.the-variants as walked
-use Rattle.tree_update.specs.declared.Updated.{Updated}
-use Rattle.tree_update.specs.declared.Updated.the-variants as updated
-use Rattle.tree_counts.specs.Counts.{readTree, writeTree, shapeCounts, Holds}
+use Rattle.tree_counts.specs.Counts.{shapeCounts, shapeIn}
 use Rattle.tree_counts.specs.Confined.{Confined}
-use Rattle.tree_update.specs.Update.{shapeIn, UpdateReady, UpdatedAs}
 use Rattle.tree_counts.specs.Rebuild.{RebuildReady, RebuiltAs}
-use Rattle.tree_walk.specs.Walk.{WalkReady, walkRun, WalkedAs}
-use Rattle.tree_counts.specs.Ranges.{Perfect}
-use Rattle.tree_counts.specs.RangeLaws.{balanced-perfect}
-use Rattle.tree_counts.specs.CountLaws.{write-over}
-use Rattle.tree_counts.specs.ShapeCountLaws.{shapeCounts-holds}
+use Rattle.tree_walk.specs.declared.Updated.{Updated}
+use Rattle.tree_walk.specs.declared.Updated.the-variants as updated
+use Rattle.tree_walk.specs.Updated.{rebuiltTo, UpdatedAs}
+use Rattle.tree_walk.specs.Walk.{WalkReady}
+use Rattle.tree_update.specs.Update.{UpdateReady}
 
--- ---- answers
-
--- What the change comes to where the size parameter M was kept, by what the walk came to.
-unfoldable pub walkedTo : ℕ → Walked → Updated
-walkedTo M (walked.Done part next) = updated.Done M part next
-walkedTo M walked.Ended = updated.Ended
-
--- What it comes to where M was set anew and everything rebuilt.
-unfoldable pub rebuiltTo : ℕ → ℕ → Rebuilt → Updated
-rebuiltTo M rank (rebuilt.Done next) = updated.Done M (record { range = 1; depth = 0; rank = rank }) next
-rebuiltTo M rank rebuilt.Ended = updated.Ended
+-- ---- the size step's answer
 
 stepped-kept : (run : Ran SizeStep) (next : ℕ) → steppedAs run ≡ stepped.Kept next → run ≡ ran kept next
 unfolding steppedAs
@@ -69,17 +53,9 @@ stepped-ended ended e = refl
 module _ {change : Change} {N M : ℕ} {counts : List ℕ} (ready : UpdateReady change N M counts) where
   allowed : Allowed N M
   unfolding shapeIn
-  allowed = ready .shape .allowed
+  allowed = rw (ready .size) at (ready .shape .allowed)
 
-  tree-perfect : Perfect (height M) (readTree (height M) counts 1)
-  unfolding shapeIn
-  tree-perfect = balanced-perfect M (height M) 0 N (readTree (height M) counts 1) (ready .shape .balanced)
-
-  held : counts ≡ writeTree (set (replicate (length counts) 0) 0 M) 1 N (readTree (height M) counts 1)
-  unfolding shapeIn shapeCounts
-  held = ready .held
-
-  pub can-fresh : (M′ : ℕ) → Allowed (countAfter change N) M′ → RebuildReady M′ (height M′) 0 1 (countAfter change N) (length counts)
+  can-fresh : (M′ : ℕ) → Allowed (countAfter change N) M′ → RebuildReady M′ (height M′) 0 1 (countAfter change N) (length counts)
   can-fresh M′ a = record {
     fits = fit (countAfter change N) M′ a;
     leaves = omega arith;
@@ -88,43 +64,15 @@ module _ {change : Change} {N M : ℕ} {counts : List ℕ} (ready : UpdateReady 
     small = omega (arith, a .most, ready .few, count-most change N);
   }
 
-  pub can-walk : Allowed (countAfter change N) M → WalkReady change N M counts
-  unfolding shapeIn
-  can-walk a = record {
-    reach = ready .reach;
-    holds =
-        subst (λ (c : List ℕ). Holds c 1 N (readTree (height M) counts 1)) (sym (ready .held))
-        (shapeCounts-holds (height M) (length counts) N (shapeIn M counts) tree-perfect (ready .old-room));
-    balanced = ready .shape .balanced;
-    fits = fit N M allowed;
-    can = can-fresh M a;
-  }
-
   -- ---- the answer
-
-  kept-as : (run : Ran Tree) (result : Walked) (counts′ : List ℕ) → ((t : Tree) (next : ℕ) → run ≡ ran t next → Perfect (height M) t)
-      → WalkedAs change N (readTree (height M) counts 1) counts run result counts′
-      → UpdatedAs change N (shapeIn M counts) (afterRun run (λ t next. ran (record { size = M; tree = t }) next)) (walkedTo M result)
-      (length counts) counts′
-  unfolding WalkedAs UpdatedAs afterRun walkedTo Confined shapeIn shapeCounts
-  kept-as (ran t next) result counts′ perfect h = (
-    h .0,
-    ap (walkedTo M) (h .1),
-    h .2
-        ∙ ap (λ (c : List ℕ). writeTree c 1 (countAfter change N) t) held
-        ∙ write-over (height M) (readTree (height M) counts 1) t _ 1 N (countAfter change N) (omega arith) tree-perfect
-        (perfect t next refl),
-    inr (refl, h .3),
-  )
-  kept-as ended result counts′ perfect h = ap (walkedTo M) h
 
   anew-as : (run : Ran Tree) (M′ : ℕ) (result : Rebuilt) (counts′ : List ℕ)
       → RebuiltAs run result 1 (countAfter change N) (set (replicate (length counts) 0) 0 M′) counts′
-      → UpdatedAs change N (shapeIn M counts) (afterRun run (λ t next. ran (record { size = M′; tree = t }) next))
-      (rebuiltTo M′ (rankOf change) result) (length counts) counts′
+      → UpdatedAs change N (shapeIn counts) (afterRun run (λ t next. ran (record { size = M′; tree = t }) next))
+      (rebuiltTo M′ (record { range = 1; depth = 0; rank = rankOf change }) result) (length counts) counts′
   unfolding RebuiltAs UpdatedAs afterRun rebuiltTo Confined shapeCounts
-  anew-as (ran t next) M′ result counts′ h = (_, ap (rebuiltTo M′ (rankOf change)) (h .0), h .1, inl refl)
-  anew-as ended M′ result counts′ h = ap (rebuiltTo M′ (rankOf change)) h
+  anew-as (ran t next) M′ result counts′ h = (_, ap (rebuiltTo M′ _) (h .0), h .1, inl refl)
+  anew-as ended M′ result counts′ h = ap (rebuiltTo M′ _) h
 
   -- ---- the size step
 
@@ -134,10 +82,14 @@ module _ {change : Change} {N M : ℕ} {counts : List ℕ} (ready : UpdateReady 
         run-ends (λ step. Allowed (countAfter change N) (sizeAfter M step)) (sizeStep change N M) tape 0 step next
         (step-ends change N M (ready .reach) allowed) e
 
-    update-run : runAt (update change N (shapeIn M counts)) tape 0
-        ≡ afterRun (runAt (sizeStep change N M) tape 0) (λ step next. runAt (reshape change N (shapeIn M counts) step) tape next)
+    update-run : runAt (update change N (shapeIn counts)) tape 0
+        ≡ afterRun (runAt (sizeStep change N M) tape 0) (λ step next. runAt (reshape change N (shapeIn counts) step) tape next)
     unfolding update shapeIn
-    update-run = run-bind (sizeStep change N M) (reshape change N (shapeIn M counts)) tape 0
+    update-run =
+        subst
+        (λ (x : ℕ). runAt (update change N (shapeIn counts)) tape 0
+        ≡ afterRun (runAt (sizeStep change N x) tape 0) (λ step next. runAt (reshape change N (shapeIn counts) step) tape next))
+        (ready .size) (run-bind _ (reshape change N (shapeIn counts)) tape 0)
 
     module _ (next : ℕ) (e : answer ≡ stepped.Kept next) where
       step-kept : runAt (sizeStep change N M) tape 0 ≡ ran kept next
@@ -145,20 +97,17 @@ module _ {change : Change} {N M : ℕ} {counts : List ℕ} (ready : UpdateReady 
 
       pub kept-can : WalkReady change N M counts
       unfolding sizeAfter
-      kept-can = can-walk (step-meets kept next step-kept)
+      kept-can = record {
+        size = ready .size;
+        shape = ready .shape;
+        held = ready .held;
+        reach = ready .reach;
+        can = can-fresh M (step-meets kept next step-kept);
+      }
 
-      pub kept-updated : (result : Walked) (counts′ : List ℕ)
-          → WalkedAs change N (readTree (height M) counts 1) counts (walkRun change N M counts tape next) result counts′
-          → UpdatedAs change N (shapeIn M counts) (runAt (update change N (shapeIn M counts)) tape 0) (walkedTo M result) (length counts) counts′
-      unfolding afterRun reshape shapeIn walkRun runAt
-      kept-updated result counts′ h =
-          rw (update-run, step-kept, run-bind)
-          (kept-as (walkRun change N M counts tape next) result counts′
-          (λ t i r. balanced-perfect M (height M) 0 (countAfter change N) t
-          (run-ends (Balanced M (height M) 0 (countAfter change N)) (walk M (height M) 0 change N (readTree (height M) counts 1)) tape next t i
-          (walk-ends M (height M) 0 change N (readTree (height M) counts 1) (kept-can .reach) (kept-can .fits) (kept-can .can .fits)
-          (kept-can .balanced)) r))
-          h)
+      pub kept-run : runAt (update change N (shapeIn counts)) tape 0 ≡ runAt (reshape change N (shapeIn counts) kept) tape next
+      unfolding afterRun
+      kept-run = update-run ∙ rw step-kept
 
     module _ (M′ next : ℕ) (e : answer ≡ stepped.Anew M′ next) where
       step-anew : runAt (sizeStep change N M) tape 0 ≡ ran (anew M′) next
@@ -169,16 +118,16 @@ module _ {change : Change} {N M : ℕ} {counts : List ℕ} (ready : UpdateReady 
         unfolding sizeAfter
         anew-can = rw en (can-fresh M′ (step-meets (anew M′) next step-anew))
 
-        pub anew-updated : (rank : ℕ) (result : Rebuilt) (counts′ : List ℕ) → rank ≡ rankOf change
-            → RebuiltAs (runAt (rebuild M′ (height M′) 0 n) tape next) result 1 n (set (replicate (length counts) 0) 0 M′) counts′
-            → UpdatedAs change N (shapeIn M counts) (runAt (update change N (shapeIn M counts)) tape 0) (rebuiltTo M′ rank result)
-            (length counts) counts′
+        pub anew-updated : (rank : ℕ) (rebuilt : Rebuilt) (result : Updated) (counts′ : List ℕ) → rank ≡ rankOf change
+            → RebuiltAs (runAt (rebuild M′ (height M′) 0 n) tape next) rebuilt 1 n (set (replicate (length counts) 0) 0 M′) counts′
+            → result ≡ rebuiltTo M′ (record { range = 1; depth = 0; rank = rank }) rebuilt
+            → UpdatedAs change N (shapeIn counts) (runAt (update change N (shapeIn counts)) tape 0) result (length counts) counts′
         unfolding afterRun reshape fresh runAt
-        anew-updated rank result counts′ er h =
-            rw (er, update-run, step-anew, run-bind)
-            (anew-as (runAt (rebuild M′ (height M′) 0 (countAfter change N)) tape next) M′ result counts′ (rw en at h))
+        anew-updated rank rebuilt result counts′ er h is =
+            rw (is, er, update-run, step-anew, run-bind)
+            (anew-as (runAt (rebuild M′ (height M′) 0 (countAfter change N)) tape next) M′ rebuilt counts′ (rw en at h))
 
     pub ended-updated : (counts′ : List ℕ) → answer ≡ stepped.Ended
-        → UpdatedAs change N (shapeIn M counts) (runAt (update change N (shapeIn M counts)) tape 0) updated.Ended (length counts) counts′
+        → UpdatedAs change N (shapeIn counts) (runAt (update change N (shapeIn counts)) tape 0) updated.Ended (length counts) counts′
     unfolding afterRun UpdatedAs
     ended-updated counts′ e = rw (update-run, stepped-ended (runAt (sizeStep change N M) tape 0) (sym is ∙ e)) refl

@@ -2,37 +2,25 @@
 ghost use lib.ListN.{length};
 ghost use Rattle.draw_shares.specs.Tape.{runAt};
 ghost use Rattle.tree_rules.specs.Rules as rules;
-ghost use Rattle.tree_update.specs.Update.{shapeIn, UpdateReady, UpdatedAs};
+ghost use Rattle.tree_counts.specs.Counts.{shapeIn};
+ghost use Rattle.tree_walk.specs.Updated.{UpdatedAs};
+ghost use Rattle.tree_update.specs.Update.{UpdateReady};
 use tree_counts::Part;
-use tree_counts::Rebuilt;
 use tree_rules::Change;
 use tree_rules::Stepped;
 use tree_sizes::Size;
-use tree_walk::Walked;
-
-// What a change of the counts comes to: the size parameter, the part to lay out anew and the place of the next word; or the tape ended.
-pub enum Updated {
-    Done { m: usize, part: Part, next: usize },
-    Ended,
-}
+use tree_walk::Updated;
 
 // Changes the counts of n entries with the size parameter m, by the words of the tape from its start: the size step first; then the walk,
 // or everything is rebuilt.
 pub fn update(change: Change, n: usize, m: usize, counts: &mut [u32], tape: &[u32]) -> Updated
     requires { ⌜ UpdateReady change n m (now counts) ⌝ }
-    ensures { λ r. ⌜ UpdatedAs change n (shapeIn m (now (counts .entry))) (runAt (rules.update change n (shapeIn m (now (counts .entry)))) (now (tape .entry)) 0) r (length (now (counts .entry))) (now (counts .exit)) ⌝ }
+    ensures { λ r. ⌜ UpdatedAs change n (shapeIn (now (counts .entry))) (runAt (rules.update change n (shapeIn (now (counts .entry)))) (now (tape .entry)) 0) r (length (now (counts .entry))) (now (counts .exit)) ⌝ }
 {
     match tree_rules::size_step(change, n, m, tape, 0) {
         Stepped::Kept { next } => {
             let size = Size { m: m };
-            match tree_walk::walk(change, n, size, counts, tape, next) {
-                Walked::Done { part, next } => Updated::Done {
-                    m: m,
-                    part: part,
-                    next: next,
-                },
-                Walked::Ended => Updated::Ended,
-            }
+            tree_walk::walk(change, n, size, counts, tape, next)
         }
         Stepped::Anew { m: anew, next } => {
             let size = Size { m: anew };
@@ -41,20 +29,9 @@ pub fn update(change: Change, n: usize, m: usize, counts: &mut [u32], tape: &[u3
                 depth: 0,
                 rank: tree_counts::rank_of(change),
             };
-            match tree_counts::fresh(
-                size,
-                tree_counts::count_after(change, n),
-                counts,
-                tape,
-                next,
-            ) {
-                Rebuilt::Done(next) => Updated::Done {
-                    m: anew,
-                    part: part,
-                    next: next,
-                },
-                Rebuilt::Ended => Updated::Ended,
-            }
+            let after = tree_counts::count_after(change, n);
+            let rebuilt = tree_counts::fresh(size, after, counts, tape, next);
+            tree_walk::finish(anew, part, rebuilt)
         }
         Stepped::Ended => Updated::Ended,
     }

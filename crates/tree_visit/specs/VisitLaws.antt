@@ -10,7 +10,7 @@ use Rattle.draw.specs.declared.Drawn.{Drawn}
 use Rattle.draw.specs.declared.Drawn.the-variants as drawn
 use Rattle.draw.specs.Draw.{drawAt}
 use Rattle.draw_shares.specs.Program.{Program}
-use Rattle.draw_shares.specs.Tape.{Ran, ended, runAt, afterDraw}
+use Rattle.draw_shares.specs.Tape.{Ran, runAt, afterDraw}
 use Rattle.tree_sizes.specs.Sizes.{IsCandidate}
 use Rattle.tree_rules.specs.declared.Change.{Change}
 use Rattle.tree_rules.specs.declared.Comparison.{Comparison}
@@ -21,7 +21,7 @@ use Rattle.tree_rules.specs.Moves.{Leaves, Inside}
 use Rattle.tree_rules.specs.Rules.{visit}
 use Rattle.tree_visit.specs.declared.Visited.{Visited}
 use Rattle.tree_visit.specs.declared.Visited.the-variants as visited
-use Rattle.tree_visit.specs.Visit.{visitAt, visitDrawn}
+use Rattle.tree_visit.specs.Visit.{visitAt, visitDrawn, visitRun}
 
 -- ---- the run
 
@@ -33,26 +33,31 @@ same-choice m n f g x y x′ y′ p q =
     (λ (e : m ≢ n). rw (ifEq-no m n x y e, ifEq-no m n x′ y′ e) q)
     (eq-or-ne m n)
 
-module _ (anew : Program Tree) (halves : ℕ → Program Tree) (onward : Program Tree) (tape : List ℕ) (at : ℕ) where
-  -- The run by what the visit gives.
-  unfoldable pub visitRun : Visited → Ran Tree
-  visitRun (visited.Pass next) = runAt onward tape next
-  visitRun visited.Rebuild = runAt anew tape at
-  visitRun (visited.Enter into next) = runAt (halves into) tape next
-  visitRun visited.Ended = ended
+module _ (rebuilt : Program Tree) (halves : ℕ → Program Tree) (below : Program Tree) (tape : List ℕ) where
+  abbrev run : Visited → Ran Tree
+  run v = visitRun rebuilt halves below tape v
 
   drawn-run : (into : ℕ) (d : Drawn)
-      → afterDraw d (λ face next. runAt (ifEq face 0 (halves into) onward) tape next) ≡ visitRun (visitDrawn into d)
+      → afterDraw d (λ face next. runAt (ifEq face 0 (halves into) below) tape next) ≡ run (visitDrawn into d)
   unfolding visitRun visitDrawn afterDraw
-  drawn-run into (drawn.Face face next) = same-choice face 0 (λ p. runAt p tape next) visitRun _ _ _ _ refl refl
+  drawn-run into (drawn.Face face next) = same-choice face 0 (λ p. runAt p tape next) run _ _ _ _ refl refl
   drawn-run into drawn.Ended = refl
 
-  pub visit-run : (found : Comparison) (c b : ℕ)
-      → runAt (visit found c b anew halves onward) tape at ≡ visitRun (visitAt found c b tape at)
+  pub visit-run : (found : Comparison) (c b at : ℕ)
+      → runAt (visit found c b rebuilt halves below) tape at ≡ run (visitAt found c b tape at)
   unfolding visit visitRun visitAt runAt
-  visit-run Unchanged c b = refl
-  visit-run (Swapped out into) c b =
-      same-choice b out (λ p. runAt p tape at) visitRun _ _ _ _ refl (drawn-run into (drawAt c tape at))
+  visit-run Unchanged c b at = refl
+  visit-run (Swapped out into) c b at =
+      same-choice b out (λ p. runAt p tape at) run _ _ _ _ refl (drawn-run into (drawAt c tape at))
+
+  -- Where the walk does not pass, what follows below is not run.
+  pub stops-run : (other : Program Tree) (v : Visited) → ((next : ℕ) → v ≢ visited.Pass next)
+      → run v ≡ visitRun rebuilt halves other tape v
+  unfolding visitRun
+  stops-run other (visited.Pass next) h = absurd (h next refl)
+  stops-run other (visited.Rebuild next) h = refl
+  stops-run other (visited.Enter into next) h = refl
+  stops-run other visited.Ended h = refl
 
 -- ---- what the visit gives, by the cases of the code
 
@@ -62,7 +67,7 @@ unfolding visitAt
 visit-unchanged found c b tape at e = rw e
 
 module _ (found : Comparison) (c b : ℕ) (tape : List ℕ) (at out into : ℕ) (e : found ≡ Swapped out into) where
-  pub visit-leaves : b ≡ out → visitAt found c b tape at ≡ visited.Rebuild
+  pub visit-leaves : b ≡ out → visitAt found c b tape at ≡ visited.Rebuild at
   unfolding visitAt
   visit-leaves h = rw e (ifEq-yes b out _ _ h)
 
@@ -93,7 +98,7 @@ pub pass-stays : (found : Comparison) (c b : ℕ) (tape : List ℕ) (at next : �
 unfolding visitAt Leaves
 pass-stays Unchanged c b tape at next e = λ z. z
 pass-stays (Swapped out into) c b tape at next e = λ same.
-    let h : visited.Rebuild ≡ visited.Pass next = sym (ifEq-yes b out visited.Rebuild (visitDrawn into (drawAt c tape at)) same) ∙ e in
+    let h : visited.Rebuild at ≡ visited.Pass next = sym (ifEq-yes b out (visited.Rebuild at) (visitDrawn into (drawAt c tape at)) same) ∙ e in
     let z : _≡_ {A = ℕ} 0 1 = cc in
     omega arith
 

@@ -11,7 +11,7 @@ use tree_rules::Comparison;
 // balance entry, or the tape ended. With the place of the next word.
 pub enum Visited {
     Pass { next: usize },
-    Rebuild,
+    Rebuild { next: usize },
     Enter { into: usize, next: usize },
     Ended,
 }
@@ -26,7 +26,7 @@ pub fn visit(change: Change, n: usize, c: usize, b: usize, tape: &[u32], at: usi
         Comparison::Unchanged => Visited::Pass { next: at },
         Comparison::Swapped { out, into } => {
             if b == out {
-                return Visited::Rebuild;
+                return Visited::Rebuild { next: at };
             }
             match draw::draw(tape, at, c) {
                 Drawn::Face { face, next } => {

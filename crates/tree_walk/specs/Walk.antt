@@ -1,27 +1,24 @@
--- The walk down from the root, where the size parameter is kept: what it asks, where it stops, and what it leaves.
--- Definitions only.
+-- The walk down from the root, where the size parameter is kept: what it asks, and where it stops. Definitions only.
 use mathlib.Core.Path.{_≡_}
 use mathlib.Core.List.{List}
 use Prim.Native.Nat.{ℕ, _+_, _-_, _*_, _^_, _≤_, _<_}
-use lib.ListN.{length}
+use lib.ListN.{length, getD}
 use Rattle.base.specs.Cases.{ifLt}
-use Rattle.draw_shares.specs.Tape.{Ran, ran, ended, afterRun, runAt}
+use Rattle.draw_shares.specs.Program.{done}
+use Rattle.draw_shares.specs.Tape.{Ran, ran, afterRun, runAt}
 use Rattle.tree_sizes.specs.Sizes.{height, candidates, IsCandidate, Fits}
 use Rattle.tree_rules.specs.declared.Change.{Change}
-use Rattle.tree_rules.specs.Tree.{Tree, leaf, Balanced}
+use Rattle.tree_rules.specs.Tree.{Tree, leaf, Balanced, IsShape}
 use Rattle.tree_rules.specs.Compare.{countAfter}
 use Rattle.tree_rules.specs.Rules.{InReach, rebuild, rebuildHalves, walk, rankOf, atRank}
 use Rattle.tree_counts.specs.declared.Part.{Part}
-use Rattle.tree_walk.specs.declared.Range.{Range}
-use Rattle.tree_counts.specs.declared.Rebuilt.{Rebuilt}
-use Rattle.tree_counts.specs.declared.Rebuilt.the-variants as rebuilt
-use Rattle.tree_walk.specs.declared.Stop.{Stop}
-use Rattle.tree_walk.specs.declared.Stop.the-variants as stop
-use Rattle.tree_walk.specs.declared.Walked.{Walked}
-use Rattle.tree_walk.specs.declared.Walked.the-variants as walked
-use Rattle.tree_counts.specs.Counts.{readTree, writeTree, Holds}
+use Rattle.tree_counts.specs.Counts.{readTree, writeTree, Holds, shapeCounts, shapeIn}
 use Rattle.tree_counts.specs.Confined.{Within}
 use Rattle.tree_counts.specs.Rebuild.{RebuildReady}
+use Rattle.tree_visit.specs.declared.Visited.the-variants as visited
+use Rattle.tree_visit.specs.Visit.{visitRun}
+use Rattle.tree_walk.specs.declared.Range.{Range}
+use Rattle.tree_walk.specs.declared.Stop.{Stop}
 
 -- ---- one range
 
@@ -55,25 +52,27 @@ partOf range = record { range = range .k; depth = range .depth; rank = rankOf (r
 
 -- ---- the walk
 
--- The walk asks that the counts hold a tree of N entries with this size, and that the candidates fit before and after the change.
+-- The walk asks that the counts hold the shape of size M of N entries, that the change is one of these, and that the candidates fit after
+-- it.
 pub record WalkReady (change : Change) (N M : ℕ) (counts : List ℕ) : Type 0 where
+  pub size : getD counts 0 0 ≡ M
+  pub shape : IsShape N (shapeIn counts)
+  pub held : counts ≡ shapeCounts (length counts) N (shapeIn counts)
   pub reach : InReach change N
-  pub holds : Holds counts 1 N (readTree (height M) counts 1)
-  pub balanced : Balanced M (height M) 0 N (readTree (height M) counts 1)
-  pub fits : Fits M (height M) 0 N
   pub can : RebuildReady M (height M) 0 1 (countAfter change N) (length counts)
 
 -- The run of the walk from the root.
 unfoldable pub walkRun : Change → ℕ → ℕ → List ℕ → List ℕ → ℕ → Ran Tree
 walkRun change N M counts tape at = runAt (walk M (height M) 0 change N (readTree (height M) counts 1)) tape at
 
--- The walk has come to the range k at depth d, `levels` above the leaves, and here the change is one to its n entries. The counts above it
--- are those after the change. `plug` puts a tree of the range into the tree of the whole.
-pub record Walking (change : Change) (N M : ℕ) (counts₀ tape : List ℕ) (whole : Ran Tree) (counts : List ℕ) (levels d k n : ℕ)
+-- The walk from the place `start` has come to the range k at depth d, `levels` above the leaves, and here the change is one to its n
+-- entries. The counts above it are those after the change. `plug` puts a tree of the range into the tree of the whole.
+pub record Walking (change : Change) (N M : ℕ) (counts₀ tape : List ℕ) (start : ℕ) (counts : List ℕ) (levels d k n : ℕ)
     (here : Change) (at : ℕ) : Type 0 where
   pub tree : Tree
   pub plug : Tree → Tree
-  pub run : whole ≡ afterRun (runAt (walk M levels d here n tree) tape at) (λ t next. ran (plug t) next)
+  pub run : walkRun change N M counts₀ tape start
+      ≡ afterRun (runAt (walk M levels d here n tree) tape at) (λ t next. ran (plug t) next)
   pub written : (t : Tree) → writeTree counts₀ 1 (countAfter change N) (plug t) ≡ writeTree counts k (countAfter here n) t
   pub within : (t : Tree) (part : Part) → Within k d here tree t part → Within 1 0 change (readTree (height M) counts₀ 1) (plug t) part
   pub reach : InReach here n
@@ -84,37 +83,33 @@ pub record Walking (change : Change) (N M : ℕ) (counts₀ tape : List ℕ) (wh
   pub positive : 0 < k
   pub kept : length counts ≡ length counts₀
 
--- The walk has stopped at this range, which can be rebuilt; `rest` is the run from there on.
-pub record Stopped (change : Change) (N M : ℕ) (counts₀ : List ℕ) (whole rest : Ran Tree) (range : Range) (counts : List ℕ) : Type 0 where
+-- ---- where it stops
+
+-- The run from the range on: it is rebuilt, or its halves are; at a leaf nothing is drawn.
+unfoldable pub stopRun : ℕ → List ℕ → Stop → Ran Tree
+stopRun M tape stop =
+    let range = stop .range in
+    visitRun (rebuild M (range .levels) (range .depth) (entriesAfter range))
+    (rebuildHalves M (range .levels - 1) (range .depth) (entriesAfter range))
+    (done leaf) tape (stop .visited)
+
+-- Where an entry enters, the range is no leaf, and the entry is one of its candidates after the change.
+abbrev pub EntersCandidate : ℕ → Stop → Type 0
+EntersCandidate M stop =
+    (into next : ℕ) → stop .visited ≡ visited.Enter into next
+    → (0 < stop .range .levels) × IsCandidate (entriesAfter (stop .range)) (candidates M (stop .range .depth)) into
+
+-- The range can be rebuilt for its entries after the change, and so can its halves.
+pub record StopReady (M : ℕ) (stop : Stop) (room : ℕ) : Type 0 where
+  pub reach : InReach (stop .range .change) (stop .range .n)
+  pub can : RebuildReady M (stop .range .levels) (stop .range .depth) (stop .range .k) (entriesAfter (stop .range)) room
+  pub enters : EntersCandidate M stop
+
+-- The walk from the place `start` has stopped.
+pub record Stopped (change : Change) (N M : ℕ) (counts₀ tape : List ℕ) (start : ℕ) (stop : Stop) (counts : List ℕ) : Type 0 where
   pub plug : Tree → Tree
-  pub run : whole ≡ afterRun rest (λ t next. ran (plug t) next)
-  pub written : (t : Tree) → writeTree counts₀ 1 (countAfter change N) (plug t) ≡ writeTree counts (range .k) (entriesAfter range) t
-  pub within : (t : Tree) → Within 1 0 change (readTree (height M) counts₀ 1) (plug t) (partOf range)
-  pub reach : InReach (range .change) (range .n)
-  pub can : RebuildReady M (range .levels) (range .depth) (range .k) (entriesAfter range) (length counts)
-
--- The same by the cases of the stop.
-unfoldable pub StoppedAs : Change → ℕ → ℕ → List ℕ → List ℕ → Ran Tree → Stop → List ℕ → Type 0
-StoppedAs change N M counts₀ tape whole (stop.Leaf range next) counts = Stopped change N M counts₀ whole (ran leaf next) range counts
-StoppedAs change N M counts₀ tape whole (stop.Rebuild range next) counts =
-    Stopped change N M counts₀ whole (runAt (rebuild M (range .levels) (range .depth) (entriesAfter range)) tape next) range counts
-StoppedAs change N M counts₀ tape whole (stop.Enter range into next) counts =
-    Stopped change N M counts₀ whole (runAt (rebuildHalves M (range .levels - 1) (range .depth) (entriesAfter range) into) tape next) range
-    counts
-    × (0 < range .levels)
-    × IsCandidate (entriesAfter range) (candidates M (range .depth)) into
-StoppedAs change N M counts₀ tape whole stop.Ended counts = whole ≡ ended
-
--- The walk that stopped at this range, by what its rebuilding came to.
-unfoldable pub walkAnswer : Range → Rebuilt → Walked
-walkAnswer range (rebuilt.Done next) = walked.Done (partOf range) next
-walkAnswer range rebuilt.Ended = walked.Ended
-
--- The answer and the counts after the walk, by its run. Where the tape ended nothing is said of the counts.
-unfoldable pub WalkedAs : Change → ℕ → Tree → List ℕ → Ran Tree → Walked → List ℕ → Type 0
-WalkedAs change N t counts₀ (ran t′ next) answer counts =
-    (part : Part)
-    × (answer ≡ walked.Done part next)
-    × (counts ≡ writeTree counts₀ 1 (countAfter change N) t′)
-    × Within 1 0 change t t′ part
-WalkedAs change N t counts₀ ended answer counts = answer ≡ walked.Ended
+  pub run : walkRun change N M counts₀ tape start ≡ afterRun (stopRun M tape stop) (λ t next. ran (plug t) next)
+  pub written : (t : Tree)
+      → writeTree counts₀ 1 (countAfter change N) (plug t) ≡ writeTree counts (stop .range .k) (entriesAfter (stop .range)) t
+  pub within : (t : Tree) → Within 1 0 change (readTree (height M) counts₀ 1) (plug t) (partOf (stop .range))
+  pub ready : StopReady M stop (length counts)

@@ -6,66 +6,59 @@ use Prim.Native.Nat.{ℕ, suc, _+_, _-_, _*_, _^_, _≤_, _<_}
 use native.Mathlib.Omega.{arith}
 use native.Mathlib.Numerals.{add-one}
 use lib.ListN.{length, getD, set, length-set}
-use Rattle.base.specs.Cases.{ifLt}
 use Rattle.base.specs.CaseLaws.{lt-or-ge, by-lt, ifLt-yes, ifLt-no}
-use Rattle.draw_shares.specs.Program.{Program, done, _>>=_}
+use Rattle.draw_shares.specs.Program.{done}
 use Rattle.draw_shares.specs.Tape.{Ran, ran, ended, runAt, afterRun}
-use Rattle.draw_shares.specs.TapeLaws.{run-bind}
+use Rattle.draw_shares.specs.TapeLaws.{run-bind, run-ends}
 use Rattle.tree_sizes.specs.Sizes.{height, candidates, IsCandidate}
 use Rattle.tree_sizes.specs.SizeLaws.{candidate-below}
-use Rattle.tree_sizes.specs.Fit.{fits-pos, fits-count, fits-halves}
+use Rattle.tree_sizes.specs.Fit.{fit, fits-pos, fits-count, fits-halves}
 use Rattle.tree_rules.specs.declared.Change.{Change}
-use Rattle.tree_rules.specs.Tree.{Tree, leaf, node, Balanced}
+use Rattle.tree_rules.specs.Tree.{Tree, leaf, node, Balanced, Shape, IsShape}
 use Rattle.tree_rules.specs.Compare.{countAfter, compare}
 use Rattle.tree_rules.specs.Moves.{rankNow, Leaves, Moves}
 use Rattle.tree_rules.specs.MoveLaws.{moves}
 use Rattle.tree_rules.specs.Step.{CompareReady}
 use Rattle.tree_rules.specs.ChangeLaws.{count-least, right-reach, right-after, right-now, left-reach, left-count, left-now}
-use Rattle.tree_rules.specs.Rules.{InReach, rebuild, rebuildHalves, walk, rankOf, atRank}
+use Rattle.tree_rules.specs.Rules.{InReach, rebuild, rebuildHalves, walkHalf, walk, rankOf, atRank, kept, reshape}
+use Rattle.tree_rules.specs.ShapeLaws.{walk-ends}
 use Rattle.tree_counts.specs.declared.Part.{Part}
-use Rattle.tree_walk.specs.declared.Range.{Range}
 use Rattle.tree_counts.specs.declared.Rebuilt.{Rebuilt}
-use Rattle.tree_counts.specs.declared.Rebuilt.the-variants as rebuilt
+use Rattle.tree_counts.specs.Ranges.{Perfect}
+use Rattle.tree_counts.specs.Counts.{readTree, writeTree, Holds, shapeCounts, shapeIn}
+use Rattle.tree_counts.specs.Confined.{Within, Confined}
+use Rattle.tree_counts.specs.Rebuild.{RebuildReady, RebuiltAs}
+use Rattle.tree_counts.specs.RangeLaws.{not-left, not-right, balanced-perfect}
+use Rattle.tree_counts.specs.CountLaws.{holds-count, holds-set, write-left, write-right, write-over}
+use Rattle.tree_counts.specs.ShapeCountLaws.{shapeCounts-holds}
+use Rattle.tree_counts.specs.RebuildLaws.{one-more, Bounds, bounds, halves-can, rebuild-here, above-leaves}
 use Rattle.tree_visit.specs.declared.Visited.{Visited}
 use Rattle.tree_visit.specs.declared.Visited.the-variants as visited
+use Rattle.tree_visit.specs.Visit.{visitAt, visitRun}
+use Rattle.tree_visit.specs.VisitLaws.{visit-run, stops-run, pass-stays, enters-candidate}
+use Rattle.tree_walk.specs.declared.Range.{Range}
 use Rattle.tree_walk.specs.declared.Stop.{Stop}
-use Rattle.tree_walk.specs.declared.Stop.the-variants as stop
-use Rattle.tree_walk.specs.declared.Walked.{Walked}
-use Rattle.tree_walk.specs.declared.Walked.the-variants as walked
-use Rattle.tree_counts.specs.Counts.{readTree, writeTree, Holds}
-use Rattle.tree_counts.specs.Confined.{Within}
-use Rattle.tree_counts.specs.Rebuild.{RebuiltAs}
-use Rattle.tree_visit.specs.Visit.{visitAt}
-use Rattle.tree_walk.specs.Walk.{halfOf, partOf, entriesAfter, WalkReady, walkRun, Walking, Stopped, StoppedAs, walkAnswer, WalkedAs}
-use Rattle.tree_counts.specs.RangeLaws.{not-left, not-right}
-use Rattle.tree_counts.specs.CountLaws.{holds-count, holds-set, write-left, write-right}
-use Rattle.tree_counts.specs.RebuildLaws.{one-more, Bounds, bounds, halves-can}
-use Rattle.tree_visit.specs.VisitLaws.{visitRun, visit-run, pass-stays, enters-candidate}
+use Rattle.tree_walk.specs.declared.Updated.{Updated}
+use Rattle.tree_walk.specs.Updated.{rebuiltTo, UpdatedAs}
+use Rattle.tree_walk.specs.Walk.{halfOf, partOf, entriesAfter, WalkReady, walkRun, Walking, stopRun, EntersCandidate, StopReady, Stopped}
 
 -- ---- the run at a range above the leaves
-
--- The walk below a range.
-unfoldable pub walkBelow : ℕ → ℕ → ℕ → Change → ℕ → ℕ → Tree → Tree → Program Tree
-walkBelow M levels d here n b l r =
-    ifLt b (rankOf here)
-    (walk M levels (suc d) (atRank here (rankOf here - b)) (n - b) r >>= λ r′. done (node b l r′))
-    (walk M levels (suc d) here b l >>= λ l′. done (node (countAfter here b) l′ r))
 
 module _ (M levels d : ℕ) (here : Change) (n b : ℕ) (l r : Tree) (tape : List ℕ) (at : ℕ) where
   pub walk-node : runAt (walk M (suc levels) d here n (node b l r)) tape at
       ≡ visitRun (rebuild M (suc levels) d (countAfter here n)) (rebuildHalves M levels d (countAfter here n))
-      (walkBelow M levels d here n b l r) tape at (visitAt (compare here n (candidates M d)) (candidates M d) b tape at)
-  unfolding walk walkBelow
-  walk-node = visit-run _ _ _ tape at (compare here n (candidates M d)) (candidates M d) b
+      (walkHalf (walk M levels (suc d)) here n b l r) tape (visitAt (compare here n (candidates M d)) (candidates M d) b tape at)
+  unfolding walk
+  walk-node = visit-run _ _ _ tape (compare here n (candidates M d)) (candidates M d) b at
 
-  pub left-run : rankOf here ≤ b → runAt (walkBelow M levels d here n b l r) tape at
+  pub left-run : rankOf here ≤ b → runAt (walkHalf (walk M levels (suc d)) here n b l r) tape at
       ≡ afterRun (runAt (walk M levels (d + 1) here b l) tape at) (λ l′ next. ran (node (countAfter here b) l′ r) next)
-  unfolding walkBelow runAt
+  unfolding walkHalf runAt
   left-run h = rw (ifLt-no b (rankOf here) _ _ h, add-one) (run-bind _ _ tape at)
 
-  pub right-run : b < rankOf here → runAt (walkBelow M levels d here n b l r) tape at
+  pub right-run : b < rankOf here → runAt (walkHalf (walk M levels (suc d)) here n b l r) tape at
       ≡ afterRun (runAt (walk M levels (d + 1) (atRank here (rankOf here - b)) (n - b) r) tape at) (λ r′ next. ran (node b l r′) next)
-  unfolding walkBelow runAt
+  unfolding walkHalf runAt
   right-run h = rw (ifLt-yes b (rankOf here) _ _ h, add-one) (run-bind _ _ tape at)
 
 -- ---- the walk at a range
@@ -114,35 +107,63 @@ module _ (k d : ℕ) (here : Change) (tree : Tree) (b : ℕ) (l r : Tree) (is : 
   unfolding Within
   within-right r′ h inside = rw is (inr (inr (h, refl, refl, rw (add-one d) at inside)))
 
-pub walking-start : (change : Change) (N M : ℕ) (counts tape : List ℕ) (at : ℕ) → WalkReady change N M counts
-    → Walking change N M counts tape (walkRun change N M counts tape at) counts (height M) 0 1 N change at
-unfolding walkRun
-walking-start change N M counts tape at p = record {
-  tree = readTree (height M) counts 1;
-  plug = λ t. t;
-  run = sym (after-ran (runAt (walk M (height M) 0 change N (readTree (height M) counts 1)) tape at));
-  written = λ t. refl;
-  within = λ t part w. w;
-  reach = p .reach;
-  holds = p .holds;
-  balanced = p .balanced;
-  fits = p .fits;
-  can = p .can;
-  positive = omega arith;
-  kept = refl;
-}
+-- ---- the start
 
-module _ {change : Change} {N M : ℕ} {counts₀ tape : List ℕ} {whole : Ran Tree} {counts : List ℕ} {levels d k n : ℕ} {here : Change} {at : ℕ}
-    (w : Walking change N M counts₀ tape whole counts levels d k n here at) where
-  stopped-at : (rest : Ran Tree) → runAt (walk M levels d here n (w .tree)) tape at ≡ rest
-      → Stopped change N M counts₀ whole rest (record { k = k; depth = d; levels = levels; n = n; change = here }) counts
-  stopped-at rest e = record {
+module _ {change : Change} {N M : ℕ} {counts : List ℕ} (p : WalkReady change N M counts) where
+  abbrev root : Tree
+  root = readTree (height M) counts 1
+
+  -- the shape that the counts hold
+  abbrev whole : Shape
+  whole = record { size = M; tree = root }
+
+  shape-is : shapeIn counts ≡ whole
+  unfolding shapeIn
+  shape-is = rw (p .size)
+
+  has-shape : IsShape N whole
+  has-shape = rw shape-is at (p .shape)
+
+  perfect : Perfect (height M) root
+  perfect = balanced-perfect M (height M) 0 N root (has-shape .balanced)
+
+  counts-are : counts ≡ shapeCounts (length counts) N whole
+  counts-are = rw shape-is at (p .held)
+
+  pub walking-start : (tape : List ℕ) (at : ℕ) → Walking change N M counts tape at counts (height M) 0 1 N change at
+  unfolding walkRun
+  walking-start tape at = record {
+    tree = root;
+    plug = λ t. t;
+    run = sym (after-ran (runAt (walk M (height M) 0 change N root) tape at));
+    written = λ t. refl;
+    within = λ t part w. w;
+    reach = p .reach;
+    holds =
+        subst (λ (c : List ℕ). Holds c 1 N root) (sym counts-are)
+        (shapeCounts-holds (height M) (length counts) N whole perfect (omega (arith, p .can .inside)));
+    balanced = has-shape .balanced;
+    fits = fit N M (has-shape .allowed);
+    can = p .can;
+    positive = omega arith;
+    kept = refl;
+  }
+
+-- ---- a range that the walk comes to
+
+module _ {change : Change} {N M : ℕ} {counts₀ tape : List ℕ} {start : ℕ} {counts : List ℕ} {at : ℕ} (range : Range)
+    (w : Walking change N M counts₀ tape start counts (range .levels) (range .depth) (range .k) (range .n) (range .change) at) where
+  stopped-at : (v : Visited)
+      → runAt (walk M (range .levels) (range .depth) (range .change) (range .n) (w .tree)) tape at
+      ≡ stopRun M tape (record { range = range; visited = v })
+      → EntersCandidate M (record { range = range; visited = v })
+      → Stopped change N M counts₀ tape start (record { range = range; visited = v }) counts
+  stopped-at v e enters = record {
     plug = w .plug;
     run = w .run ∙ rw e;
     written = w .written;
-    within = λ t. w .within t _ (within-here k d here (w .tree) t);
-    reach = w .reach;
-    can = w .can;
+    within = λ t. w .within t _ (within-here (range .k) (range .depth) (range .change) (w .tree) t);
+    ready = record { reach = w .reach; can = w .can; enters = enters };
   }
 
 -- The values that the code has at a range: the number of candidates, the balance rank, and what the visit gives.
@@ -151,8 +172,8 @@ pub record Seen (M : ℕ) (tape counts : List ℕ) (d k n : ℕ) (here : Change)
   pub balance-is : b ≡ getD counts (2 * k) 0
   pub visit-is : v ≡ visitAt (compare here n c) c b tape at
 
-module _ {change : Change} {N M : ℕ} {counts₀ tape : List ℕ} {whole : Ran Tree} {counts : List ℕ} {levels d k n : ℕ} {here : Change} {at : ℕ}
-    (w : Walking change N M counts₀ tape whole counts (suc levels) d k n here at) where
+module _ {change : Change} {N M : ℕ} {counts₀ tape : List ℕ} {start : ℕ} {counts : List ℕ} {levels d k n : ℕ} {here : Change} {at : ℕ}
+    (w : Walking change N M counts₀ tape start counts (suc levels) d k n here at) where
   -- what is asked of the comparison
   pub comparable : CompareReady here n (candidates M d)
   comparable = record {
@@ -194,33 +215,26 @@ module _ {change : Change} {N M : ℕ} {counts₀ tape : List ℕ} {whole : Ran 
 
     node-run : runAt (walk M (suc levels) d here n (w .tree)) tape at
         ≡ visitRun (rebuild M (suc levels) d (countAfter here n)) (rebuildHalves M levels d (countAfter here n))
-        (walkBelow M levels d here n (at-node .b) (at-node .l) (at-node .r)) tape at v
+        (walkHalf (walk M levels (suc d)) here n (at-node .b) (at-node .l) (at-node .r)) tape v
     node-run =
         ap (λ (t : Tree). runAt (walk M (suc levels) d here n t) tape at) (at-node .is)
         ∙ walk-node M levels d here n (at-node .b) (at-node .l) (at-node .r) tape at
-        ∙ ap (visitRun _ _ _ tape at) seen
+        ∙ ap (visitRun _ _ _ tape) seen
 
-    node-rebuild : v ≡ visited.Rebuild
-        → StoppedAs change N M counts₀ tape whole
-        (stop.Rebuild (record { k = k; depth = d; levels = suc levels; n = n; change = here }) at) counts
-    unfolding StoppedAs visitRun
-    node-rebuild e = stopped-at w _ (node-run ∙ rw e)
-
-    node-enter : (into next : ℕ) → v ≡ visited.Enter into next
-        → StoppedAs change N M counts₀ tape whole
-        (stop.Enter (record { k = k; depth = d; levels = suc levels; n = n; change = here }) into next) counts
-    unfolding StoppedAs visitRun
-    node-enter into next e =
-        let lower : suc levels - 1 ≡ levels = omega arith in (
-          stopped-at w _ (rw lower (node-run ∙ rw e)),
+    -- the walk does not pass
+    node-stop : ((next : ℕ) → v ≢ visited.Pass next)
+        → Stopped change N M counts₀ tape start
+        (record { range = record { k = k; depth = d; levels = suc levels; n = n; change = here }; visited = v }) counts
+    unfolding stopRun
+    node-stop stops =
+        let lower : suc levels - 1 ≡ levels = omega arith in
+        stopped-at _ w v
+        (rw lower (node-run ∙ stops-run _ _ _ tape (done leaf) v stops))
+        (λ into next e. (
           omega arith,
           enters-candidate here n (candidates M d) (at-node .b) tape at into next (compare here n (candidates M d)) (moved .inside)
               (seen ∙ e),
-        )
-
-    node-ended : v ≡ visited.Ended → StoppedAs change N M counts₀ tape whole stop.Ended counts
-    unfolding StoppedAs visitRun afterRun
-    node-ended e = w .run ∙ rw (node-run, e)
+        ))
 
     module _ (next : ℕ) (e : v ≡ visited.Pass next) where
       stays : ¬ Leaves (compare here n (candidates M d)) (at-node .b)
@@ -229,8 +243,8 @@ module _ {change : Change} {N M : ℕ} {counts₀ tape : List ℕ} {whole : Ran 
       still : IsCandidate (countAfter here n) (candidates M d) (rankNow here (at-node .b))
       still = moved .within (at-node .b) (at-node .candidate) stays
 
-      onward-run : whole
-          ≡ afterRun (runAt (walkBelow M levels d here n (at-node .b) (at-node .l) (at-node .r)) tape next) (λ t i. ran (w .plug t) i)
+      onward-run : walkRun change N M counts₀ tape start
+          ≡ afterRun (runAt (walkHalf (walk M levels (suc d)) here n (at-node .b) (at-node .l) (at-node .r)) tape next) (λ t i. ran (w .plug t) i)
       unfolding visitRun
       onward-run = w .run ∙ rw (node-run, e)
 
@@ -238,7 +252,7 @@ module _ {change : Change} {N M : ℕ} {counts₀ tape : List ℕ} {whole : Ran 
       balance-most = omega (arith, candidate-below n (candidates M d) (at-node .b) (comparable .before) (at-node .candidate))
 
       left-walking : rankOf here ≤ at-node .b
-          → Walking change N M counts₀ tape whole (set counts k (countAfter here n)) levels (d + 1) (2 * k) (at-node .b) here next
+          → Walking change N M counts₀ tape start (set counts k (countAfter here n)) levels (d + 1) (2 * k) (at-node .b) here next
       left-walking h =
           let reach = left-reach here (at-node .b) h (moved .stays (at-node .b) (at-node .candidate) stays) in
           record {
@@ -268,7 +282,7 @@ module _ {change : Change} {N M : ℕ} {counts₀ tape : List ℕ} {whole : Ran 
           }
 
       right-walking : at-node .b < rankOf here
-          → Walking change N M counts₀ tape whole (set counts k (countAfter here n)) levels (d + 1) (2 * k + 1) (n - at-node .b)
+          → Walking change N M counts₀ tape start (set counts k (countAfter here n)) levels (d + 1) (2 * k + 1) (n - at-node .b)
           (atRank here (rankOf here - at-node .b)) next
       right-walking h =
           let rest = right-after here n (at-node .b) h (w .reach) in
@@ -301,11 +315,11 @@ module _ {change : Change} {N M : ℕ} {counts₀ tape : List ℕ} {whole : Ran 
       balance-seen = s .balance-is ∙ balance
 
       pass-left : rankOf here ≤ b
-          → Walking change N M counts₀ tape whole (set counts k (countAfter here n)) levels (d + 1) (2 * k) b here next
+          → Walking change N M counts₀ tape start (set counts k (countAfter here n)) levels (d + 1) (2 * k) b here next
       pass-left h = rw balance-seen (left-walking (rw balance-seen at h))
 
       pass-right : b < rankOf here
-          → Walking change N M counts₀ tape whole (set counts k (countAfter here n)) levels (d + 1) (2 * k + 1) (n - b)
+          → Walking change N M counts₀ tape start (set counts k (countAfter here n)) levels (d + 1) (2 * k + 1) (n - b)
           (atRank here (rankOf here - b)) next
       pass-right h = rw balance-seen (right-walking (rw balance-seen at h))
 
@@ -317,39 +331,33 @@ above-range range above =
     ap (λ (x : ℕ). record { k = range .k; depth = range .depth; levels = x; n = range .n; change = range .change })
     (one-more (range .levels) above)
 
-module _ {change : Change} {N M : ℕ} {counts₀ tape : List ℕ} {whole : Ran Tree} {counts : List ℕ} {at : ℕ} (range : Range)
-    (w : Walking change N M counts₀ tape whole counts (range .levels) (range .depth) (range .k) (range .n) (range .change) at) where
+module _ {change : Change} {N M : ℕ} {counts₀ tape : List ℕ} {start : ℕ} {counts : List ℕ} {at : ℕ} (range : Range)
+    (w : Walking change N M counts₀ tape start counts (range .levels) (range .depth) (range .k) (range .n) (range .change) at) where
   pub entries-most : range .n < 2 ^ 62
   entries-most = omega (arith, w .can .few, count-least (range .change) (range .n))
 
-  pub stop-leaf : range .levels ≡ 0 → StoppedAs change N M counts₀ tape whole (stop.Leaf range at) counts
-  unfolding StoppedAs walk runAt
-  stop-leaf leaves = stopped-at w (ran leaf at) (rw leaves)
+  pub stop-leaf : range .levels ≡ 0
+      → Stopped change N M counts₀ tape start (record { range = range; visited = visited.Pass at }) counts
+  unfolding stopRun visitRun walk runAt
+  stop-leaf leaves =
+      stopped-at range w (visited.Pass at) (rw leaves) (λ into next e. let z : _≡_ {A = ℕ} 0 1 = cc in absurd (omega arith))
 
   module _ (above : range .levels ≢ 0) where
     pub above-walking :
-        Walking change N M counts₀ tape whole counts (suc (range .levels - 1)) (range .depth) (range .k) (range .n) (range .change) at
+        Walking change N M counts₀ tape start counts (suc (range .levels - 1)) (range .depth) (range .k) (range .n) (range .change) at
     above-walking =
-        subst (λ (x : ℕ). Walking change N M counts₀ tape whole counts x (range .depth) (range .k) (range .n) (range .change) at)
+        subst (λ (x : ℕ). Walking change N M counts₀ tape start counts x (range .depth) (range .k) (range .n) (range .change) at)
         (one-more (range .levels) above) w
 
     module _ {c b : ℕ} {v : Visited} (s : Seen M tape counts (range .depth) (range .k) (range .n) (range .change) at c b v) where
-      pub stop-rebuild : v ≡ visited.Rebuild → StoppedAs change N M counts₀ tape whole (stop.Rebuild range at) counts
-      stop-rebuild e =
-          subst (λ (r : Range). StoppedAs change N M counts₀ tape whole (stop.Rebuild r at) counts) (sym (above-range range above))
-          (node-rebuild above-walking s e)
-
-      pub stop-enter : (into next : ℕ) → v ≡ visited.Enter into next
-          → StoppedAs change N M counts₀ tape whole (stop.Enter range into next) counts
-      stop-enter into next e =
-          subst (λ (r : Range). StoppedAs change N M counts₀ tape whole (stop.Enter r into next) counts) (sym (above-range range above))
-          (node-enter above-walking s into next e)
-
-      pub stop-ended : v ≡ visited.Ended → StoppedAs change N M counts₀ tape whole stop.Ended counts
-      stop-ended e = node-ended above-walking s e
+      pub stop-visit : ((next : ℕ) → v ≢ visited.Pass next)
+          → Stopped change N M counts₀ tape start (record { range = range; visited = v }) counts
+      stop-visit stops =
+          subst (λ (r : Range). Stopped change N M counts₀ tape start (record { range = r; visited = v }) counts)
+          (sym (above-range range above)) (node-stop above-walking s stops)
 
       pub pass : (next after : ℕ) (half : Range) → v ≡ visited.Pass next → after ≡ entriesAfter range → half ≡ halfOf range b
-          → Walking change N M counts₀ tape whole (set counts (range .k) after) (half .levels) (half .depth) (half .k) (half .n)
+          → Walking change N M counts₀ tape start (set counts (range .k) after) (half .levels) (half .depth) (half .k) (half .n)
           (half .change) next
       unfolding halfOf
       pass next after half e ea eh =
@@ -362,60 +370,59 @@ module _ {change : Change} {N M : ℕ} {counts₀ tape : List ℕ} {whole : Ran 
 
 -- ---- the end of the walk
 
-walked-done : (rest : Ran Tree) {change : Change} {N M : ℕ} {counts₀ : List ℕ} {whole : Ran Tree} {range : Range} {counts : List ℕ}
-    (rebuilt : Rebuilt) (counts′ : List ℕ) → Stopped change N M counts₀ whole rest range counts
-    → RebuiltAs rest rebuilt (range .k) (entriesAfter range) counts counts′
-    → WalkedAs change N (readTree (height M) counts₀ 1) counts₀ whole (walkAnswer range rebuilt) counts′
-unfolding RebuiltAs WalkedAs afterRun walkAnswer
-walked-done (ran t next) {range} rebuilt counts′ w h =
-    rw (w .run) (partOf range, ap (walkAnswer range) (h .0), h .1 ∙ sym (w .written t), w .within t)
-walked-done ended {range} rebuilt counts′ w h = rw (w .run) (ap (walkAnswer range) h)
+module _ {change : Change} {N M : ℕ} {counts₀ tape : List ℕ} {start : ℕ} {stop : Stop} {counts : List ℕ} (p : WalkReady change N M counts₀)
+    (w : Stopped change N M counts₀ tape start stop counts) where
+  -- the walk ends with a tree that reaches down to the leaves
+  ends-perfect : (t : Tree) (next : ℕ) → walkRun change N M counts₀ tape start ≡ ran t next → Perfect (height M) t
+  unfolding walkRun
+  ends-perfect t next e =
+      balanced-perfect M (height M) 0 (countAfter change N) t
+      (run-ends (Balanced M (height M) 0 (countAfter change N)) (walk M (height M) 0 change N (root p)) tape start t next
+      (walk-ends M (height M) 0 change N (root p) (p .reach) (fit N M (has-shape p .allowed)) (p .can .fits) (has-shape p .balanced)) e)
 
-pub stopped-most : {change : Change} {N M : ℕ} {counts₀ : List ℕ} {whole rest : Ran Tree} {range : Range} {counts : List ℕ}
-    → Stopped change N M counts₀ whole rest range counts → range .n < 2 ^ 62
-stopped-most {range} w = omega (arith, w .can .few, count-least (range .change) (range .n))
+  walk-run : runAt (reshape change N (whole p) kept) tape start
+      ≡ afterRun (walkRun change N M counts₀ tape start) (λ t next. ran (record { size = M; tree = t }) next)
+  unfolding reshape walkRun runAt
+  walk-run = run-bind (walk M (height M) 0 change N (root p)) (λ t. done (record { size = M; tree = t })) tape start
 
-module _ (change : Change) (N M : ℕ) (counts₀ tape : List ℕ) (whole : Ran Tree) (answer : Stop) (counts : List ℕ)
-    (h : StoppedAs change N M counts₀ tape whole answer counts) where
-  module _ (range : Range) (next : ℕ) (e : answer ≡ stop.Leaf range next) where
-    pub leaf-stopped : Stopped change N M counts₀ whole (ran leaf next) range counts
-    unfolding StoppedAs
-    leaf-stopped = rw e at h
+  finished : (rest : Ran Tree) (rebuilt : Rebuilt) (counts′ : List ℕ)
+      → walkRun change N M counts₀ tape start ≡ afterRun rest (λ t next. ran (w .plug t) next)
+      → RebuiltAs rest rebuilt (stop .range .k) (entriesAfter (stop .range)) counts counts′
+      → UpdatedAs change N (whole p) (runAt (reshape change N (whole p) kept) tape start) (rebuiltTo M (partOf (stop .range)) rebuilt)
+      (length counts₀) counts′
+  unfolding RebuiltAs UpdatedAs rebuiltTo afterRun Confined shapeCounts
+  finished (ran t next) rebuilt counts′ e h = rw (walk-run, e) (
+    partOf (stop .range),
+    ap (rebuiltTo M (partOf (stop .range))) (h .0),
+    h .1
+        ∙ sym (w .written t)
+        ∙ ap (λ (c : List ℕ). writeTree c 1 (countAfter change N) (w .plug t)) (counts-are p)
+        ∙ write-over (height M) (root p) (w .plug t) _ 1 N (countAfter change N) (omega arith) (perfect p)
+        (ends-perfect (w .plug t) next e),
+    inr (refl, w .within t),
+  )
+  finished ended rebuilt counts′ e h = rw (walk-run, e) (ap (rebuiltTo M (partOf (stop .range))) h)
 
-    pub leaf-walked : (after : ℕ) (result : Walked) → after ≡ entriesAfter range → result ≡ walkAnswer range (rebuilt.Done next)
-        → WalkedAs change N (readTree (height M) counts₀ 1) counts₀ whole result (set counts (range .k) after)
-    unfolding RebuiltAs writeTree
-    leaf-walked after result ea er = rw (ea, er) (walked-done (ran leaf next) (rebuilt.Done next) _ leaf-stopped (refl, refl))
+  pub walk-updated : (part : Part) (rebuilt : Rebuilt) (result : Updated) (counts′ : List ℕ) → part ≡ partOf (stop .range)
+      → RebuiltAs (stopRun M tape stop) rebuilt (stop .range .k) (entriesAfter (stop .range)) counts counts′
+      → result ≡ rebuiltTo M part rebuilt
+      → UpdatedAs change N (shapeIn counts₀) (runAt (reshape change N (shapeIn counts₀) kept) tape start) result (length counts₀) counts′
+  walk-updated part rebuilt result counts′ ep h er = rw (er, ep, shape-is p) (finished (stopRun M tape stop) rebuilt counts′ (w .run) h)
 
-  module _ (range : Range) (next : ℕ) (e : answer ≡ stop.Rebuild range next) where
-    pub rebuild-stopped :
-        Stopped change N M counts₀ whole (runAt (rebuild M (range .levels) (range .depth) (entriesAfter range)) tape next) range counts
-    unfolding StoppedAs
-    rebuild-stopped = rw e at h
+-- ---- the range where the walk stopped
 
-    pub rebuild-walked : (after : ℕ) (rebuilt : Rebuilt) (result : Walked) (counts′ : List ℕ) → after ≡ entriesAfter range
-        → RebuiltAs (runAt (rebuild M (range .levels) (range .depth) after) tape next) rebuilt (range .k) after counts counts′
-        → result ≡ walkAnswer range rebuilt → WalkedAs change N (readTree (height M) counts₀ 1) counts₀ whole result counts′
-    rebuild-walked after rebuilt result counts′ ea r er = rw er (walked-done _ rebuilt counts′ rebuild-stopped (rw ea at r))
+module _ {M : ℕ} {stop : Stop} {room : ℕ} (w : StopReady M stop room) where
+  pub stop-most : stop .range .n < 2 ^ 62
+  stop-most = omega (arith, w .can .few, count-least (stop .range .change) (stop .range .n))
 
-  module _ (range : Range) (into next : ℕ) (e : answer ≡ stop.Enter range into next) where
-    pub enter-stopped :
-        Stopped change N M counts₀ whole (runAt (rebuildHalves M (range .levels - 1) (range .depth) (entriesAfter range) into) tape next)
-        range counts
-        × (0 < range .levels)
-        × IsCandidate (entriesAfter range) (candidates M (range .depth)) into
-    unfolding StoppedAs
-    enter-stopped = rw e at h
+  pub stop-here : stop .range .k < room
+  stop-here = rebuild-here (w .can)
 
-    pub enter-walked : (after : ℕ) (rebuilt : Rebuilt) (result : Walked) (counts′ : List ℕ) → after ≡ entriesAfter range
-        → RebuiltAs (runAt (rebuildHalves M (range .levels - 1) (range .depth) after into) tape next) rebuilt (range .k) after counts counts′
-        → result ≡ walkAnswer range rebuilt → WalkedAs change N (readTree (height M) counts₀ 1) counts₀ whole result counts′
-    enter-walked after rebuilt result counts′ ea r er = rw er (walked-done _ rebuilt counts′ (enter-stopped .0) (rw ea at r))
-
-  pub ended-walked : (counts′ : List ℕ) → answer ≡ stop.Ended
-      → WalkedAs change N (readTree (height M) counts₀ 1) counts₀ whole walked.Ended counts′
-  unfolding StoppedAs WalkedAs
-  ended-walked counts′ e = rw (rw e at h) refl
+  pub enter-ready : (into next : ℕ) → stop .visited ≡ visited.Enter into next
+      → RebuildReady M (suc (stop .range .levels - 1)) (stop .range .depth) (stop .range .k) (entriesAfter (stop .range)) room
+      × IsCandidate (entriesAfter (stop .range)) (candidates M (stop .range .depth)) into
+  enter-ready into next e =
+      let enters = w .enters into next e in (above-leaves (λ z. omega (arith, enters .0)) (w .can), enters .1)
 
 -- ---- the half of a range
 

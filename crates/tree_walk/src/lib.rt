@@ -1,10 +1,13 @@
 // The walk down a tree of balance ranks, where the size parameter is kept: the counts changed by an entry that comes in or goes out.
 ghost use mathlib.Core.Path.{_≡_};
 ghost use Prim.Native.Nat.{_^_, _<_};
-ghost use Rattle.tree_sizes.specs.Sizes.{height};
+ghost use lib.ListN.{length};
+ghost use Rattle.draw_shares.specs.Tape.{runAt};
 ghost use Rattle.tree_rules.specs.Rules as rules;
-ghost use Rattle.tree_counts.specs.Counts.{readTree};
-ghost use Rattle.tree_walk.specs.Walk.{entriesAfter, partOf, HalveReady, halfOf, WalkReady, walkRun, StoppedAs, walkAnswer, WalkedAs};
+ghost use Rattle.tree_counts.specs.Counts.{shapeIn};
+ghost use Rattle.tree_counts.specs.Rebuild.{RebuiltAs};
+ghost use Rattle.tree_walk.specs.Updated.{rebuiltTo, UpdatedAs};
+ghost use Rattle.tree_walk.specs.Walk.{entriesAfter, partOf, HalveReady, halfOf, WalkReady, stopRun, StopReady, Stopped};
 use tree_counts::Part;
 use tree_counts::Rebuilt;
 use tree_counts::rebuild;
@@ -14,10 +17,24 @@ use tree_sizes::Size;
 use tree_visit::Visited;
 use tree_visit::visit;
 
-// What the walk comes to: the part that it changed and the place of the next word, or the tape ended.
-pub enum Walked {
-    Done { part: Part, next: usize },
+// What a change of the counts comes to: the size parameter, the part to lay out anew and the place of the next word; or the tape ended.
+pub enum Updated {
+    Done { m: usize, part: Part, next: usize },
     Ended,
+}
+
+// What a change comes to where this part was rebuilt and the size parameter is m after it.
+pub fn finish(m: usize, part: Part, rebuilt: Rebuilt) -> Updated
+    ensures { λ r. ⌜ r ≡ rebuiltTo m part rebuilt ⌝ }
+{
+    match rebuilt {
+        Rebuilt::Done(next) => Updated::Done {
+            m: m,
+            part: part,
+            next: next,
+        },
+        Rebuilt::Ended => Updated::Ended,
+    }
 }
 
 // A range on the walk: its number, its depth, the levels from it to the leaves, its number of entries before the change, and the change
@@ -81,13 +98,11 @@ impl Range {
     }
 }
 
-// The range that the walk stops at, with the place of the next word: a leaf; a range that is rebuilt, since its balance entry leaves; or
-// one whose halves are rebuilt, with the entering entry, whose rank is given, as the balance entry. Or the tape ended.
-enum Stop {
-    Leaf(Range, usize),
-    Rebuild(Range, usize),
-    Enter(Range, usize, usize),
-    Ended,
+// The range that the walk stops at, and what its visit gave: it is rebuilt, its halves are, or the tape ended. Where it is passed, a leaf is
+// reached.
+struct Stop {
+    range: Range,
+    visited: Visited,
 }
 
 // Goes down from the root to the range where the walk stops, and changes the counts of the ranges passed on the way.
@@ -100,7 +115,7 @@ fn descend(
     start: usize,
 ) -> Stop
     requires { ⌜ WalkReady change n (size .m) (now counts) ⌝ }
-    ensures { λ r. ⌜ StoppedAs change n (size .m) (now (counts .entry)) (now (tape .entry)) (walkRun change n (size .m) (now (counts .entry)) (now (tape .entry)) start) r (now (counts .exit)) ⌝ }
+    ensures { λ r. ⌜ Stopped change n (size .m) (now (counts .entry)) (now (tape .entry)) start r (now (counts .exit)) ⌝ }
 {
     let mut range = Range {
         k: 1,
@@ -112,36 +127,48 @@ fn descend(
     let mut at = start;
     loop {
         if range.levels == 0 {
-            break Stop::Leaf(range, at);
+            let visited = Visited::Pass { next: at };
+            break Stop { range, visited };
         }
         let k = range.k;
         let b = counts[2 * k] as usize;
         let here = range.change;
-        match visit(here, range.n, size.candidates(range.depth), b, tape, at) {
+        let visited = visit(here, range.n, size.candidates(range.depth), b, tape, at);
+        match visited {
             Visited::Pass { next } => at = next,
-            Visited::Rebuild => break Stop::Rebuild(range, at),
-            Visited::Enter { into, next } => break Stop::Enter(range, into, next),
-            Visited::Ended => break Stop::Ended,
+            _ => break Stop { range, visited },
         }
         counts[k] = range.after() as u32;
         range = range.half(b);
     }
 }
 
-// The walk that stopped at this range, by what its rebuilding came to.
-fn finish(range: Range, rebuilt: Rebuilt) -> Walked
-    ensures { λ r. ⌜ r ≡ walkAnswer range rebuilt ⌝ }
+// Rebuilds the range where the walk stopped, or its halves; the count of a leaf is written.
+fn rebuild_at(stop: Stop, size: Size, counts: &mut [u32], tape: &[u32]) -> Rebuilt
+    requires { ⌜ StopReady (size .m) stop (length (now counts)) ⌝ }
+    ensures { λ r. ⌜ RebuiltAs (stopRun (size .m) (now (tape .entry)) stop) r (stop .range .k) (entriesAfter (stop .range)) (now (counts .entry)) (now (counts .exit)) ⌝ }
 {
-    match rebuilt {
-        Rebuilt::Done(next) => Walked::Done {
-            part: range.part(),
-            next: next,
-        },
-        Rebuilt::Ended => Walked::Ended,
+    let here = stop.range;
+    let n = here.after();
+    let visited = stop.visited;
+    match visited {
+        Visited::Pass { next } => {
+            let k = here.k;
+            counts[k] = n as u32;
+            Rebuilt::Done(next)
+        }
+        Visited::Rebuild { next } => {
+            rebuild(size, here.levels, here.depth, here.k, n, counts, tape, next)
+        }
+        Visited::Enter { into, next } => {
+            let lower = here.levels - 1;
+            rebuild_halves(size, lower, here.depth, here.k, n, into, counts, tape, next)
+        }
+        Visited::Ended => Rebuilt::Ended,
     }
 }
 
-// The walk down from the root: where it stops, the leaf's count is written, the range is rebuilt, or its halves are.
+// The walk down from the root, where the size parameter is kept.
 pub fn walk(
     change: Change,
     n: usize,
@@ -149,27 +176,12 @@ pub fn walk(
     counts: &mut [u32],
     tape: &[u32],
     at: usize,
-) -> Walked
+) -> Updated
     requires { ⌜ WalkReady change n (size .m) (now counts) ⌝ }
-    ensures { λ r. ⌜ WalkedAs change n (readTree (height (size .m)) (now (counts .entry)) 1) (now (counts .entry)) (walkRun change n (size .m) (now (counts .entry)) (now (tape .entry)) at) r (now (counts .exit)) ⌝ }
+    ensures { λ r. ⌜ UpdatedAs change n (shapeIn (now (counts .entry))) (runAt (rules.reshape change n (shapeIn (now (counts .entry))) rules.kept) (now (tape .entry)) at) r (length (now (counts .entry))) (now (counts .exit)) ⌝ }
 {
-    match descend(change, n, size, counts, tape, at) {
-        Stop::Leaf(here, next) => {
-            let k = here.k;
-            counts[k] = here.after() as u32;
-            finish(here, Rebuilt::Done(next))
-        }
-        Stop::Rebuild(here, next) => {
-            let n = here.after();
-            let done = rebuild(size, here.levels, here.depth, here.k, n, counts, tape, next);
-            finish(here, done)
-        }
-        Stop::Enter(here, into, next) => {
-            let n = here.after();
-            let lower = here.levels - 1;
-            let done = rebuild_halves(size, lower, here.depth, here.k, n, into, counts, tape, next);
-            finish(here, done)
-        }
-        Stop::Ended => Walked::Ended,
-    }
+    let stop = descend(change, n, size, counts, tape, at);
+    let range = stop.range;
+    let rebuilt = rebuild_at(stop, size, counts, tape);
+    finish(size.m, range.part(), rebuilt)
 }

@@ -8,16 +8,16 @@ enum-known-opened : tie.Need-enum-known-opened
 enum-known-opened c = search needs
 
 returns : tie.Need-returns
-returns c = rank-refused _ (c .before .before .opened .given .1) _ (c .if1 .taken)
+returns c = rank-refused (c .before .before .opened .given .1) _ (c .if1 .taken)
 
 enum-known-opened-2 : tie.Need-enum-known-opened-2
 enum-known-opened-2 c = search needs
 
 returns-2 : tie.Need-returns-2
-returns-2 c = rank-admitted _ (c .before .before .opened .given .1) _ (c .if1 .left)
+returns-2 c = rank-admitted (c .before .before .opened .given .1) _ (c .if1 .left)
 
 returns-3 : tie.Need-returns-3
-returns-3 c = still-refused _ _ (c .before .opened2 .given .1)
+returns-3 c = still-refused _ (c .before .opened2 .given .1)
 
 pub admit-rank-spec : {M : Type 1} → statement M
 admit-rank-spec =

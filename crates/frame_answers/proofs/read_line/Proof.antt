@@ -37,7 +37,7 @@ array-share-prefix-list c =
     let back = c .before .before .before in
     omega (
       arith,
-      read-most _ _ _ _ _ _ _ _ _ (back .before .before .read .ensures) (back .returned .ensures) (c .before .before .if1 .left),
+      read-most _ _ _ _ _ _ _ _ _ _ (back .before .before .read .ensures) (back .returned .ensures) (c .before .before .if1 .left),
       back .before .before .read .kept .1 .1 .1 .1 .0,
     )
 

@@ -8,6 +8,9 @@ use Rattle.frame_answers.proofs.tape_line.Tie as tie
 sub-if1 : tie.Need-sub-if1
 sub-if1 c = search needs
 
+number-requires : tie.Need-number-requires
+number-requires c κs = search needs
+
 answer-requires : tie.Need-answer-requires
 answer-requires c κs = search needs
 
@@ -15,7 +18,11 @@ same-length : tie.Need-same-length
 same-length c = search needs
 
 returns : tie.Need-returns
-returns c = taped-full _ _ _ _ _ _ (omega (arith, c .before .before .before .before .if1 .taken)) (c .before .before .answer .ensures)
+returns c =
+    let a = c .before .before in
+    let full = a .before .before in
+    let start = full .before .before .before .before .before .before .before in
+    taped-full _ _ _ _ _ _ (omega (arith, full .before .if1 .taken, start .pre .1 .0)) (rw (full .number .ensures) at (a .answer .ensures))
 
 add-words-requires : tie.Need-add-words-requires
 add-words-requires c κs = search needs
@@ -23,8 +30,8 @@ add-words-requires c κs = search needs
 answer-requires-2 : tie.Need-answer-requires-2
 answer-requires-2 c κs = search needs
 
-add-t10 : tie.Need-add-t10
-add-t10 c = search needs
+add-t11 : tie.Need-add-t11
+add-t11 c = search needs
 
 same-length-2 : tie.Need-same-length-2
 same-length-2 c = search needs
@@ -37,19 +44,20 @@ returns-2 c =
     let last = c .before .before in
     let added = last .before .before .before .before in
     let start = added .before .before .before .before .before .before .before .before in
-    taped-more _ _ _ _ _ _ (omega (arith, added .before .before .if1 .left, start .pre .1 .1 .0)) (added .add-words .ensures) (last .answer2 .ensures)
+    taped-more _ _ _ _ _ _ (omega (arith, added .before .before .if1 .left, start .pre .1 .0, start .pre .1 .1 .0)) (added .add-words .ensures) (last .answer2 .ensures)
 
 pub tape-line-spec : {M : Type 1} → statement M
 tape-line-spec =
     tie.close
     (tie.spec
     sub-if1
+    number-requires
     answer-requires
     same-length
     returns
     add-words-requires
     answer-requires-2
-    add-t10
+    add-t11
     same-length-2
     same-length-3
     returns-2)

@@ -42,6 +42,9 @@ enum-known-frame-2 c = search needs
 place-line-requires : tie.Need-place-line-requires
 place-line-requires c κs = search needs
 
+number-requires : tie.Need-number-requires
+number-requires c κs = search needs
+
 answer-requires : tie.Need-answer-requires
 answer-requires c κs = search needs
 
@@ -75,8 +78,9 @@ same-length-4 c = search needs
 returns-4 : tie.Need-returns-4
 returns-4 c =
     let last = c .before .before in
-    let rest = last .before .before in
-    none-replied _ _ (no-frame _ (rest .before .before .before .before .pre .0) (rest .match .keys4)) (last .answer .ensures)
+    let found = last .before .before in
+    let rest = found .before in
+    none-replied _ _ (no-frame _ (rest .before .before .before .before .pre .0) (rest .match .keys4)) (rw (found .number .ensures) at (last .answer .ensures))
 
 pub answer-question-spec : {M : Type 1} → statement M
 answer-question-spec =
@@ -88,6 +92,7 @@ answer-question-spec =
     print-line-requires
     enum-known-frame-2
     place-line-requires
+    number-requires
     answer-requires
     same-length
     returns

@@ -1,25 +1,14 @@
 -- `print_leaf` meets its contract.
 use borrow.Author.Needs.{needs}
-use Prim.Native.Nat.{_+_}
-use native.Mathlib.Omega.{arith}
-use mathlib.Core.Path.{refl}
 use Rattle.frame_print.specs.PrintLaws.{leaf-wrote}
 use Rattle.frame_print.proofs.print_leaf.Statement.{statement}
 use Rattle.frame_print.proofs.print_leaf.Tie as tie
 
-add-count : tie.Need-add-count
-add-count c = search needs
+add-range-count : tie.Need-add-range-count
+add-range-count c = search needs
 
-mul-count : tie.Need-mul-count
-mul-count c = search needs
-
-shared-slice-read-count : tie.Need-shared-slice-read-count
-shared-slice-read-count c = search needs
-
-cast-count : tie.Need-cast-count
-cast-count c =
-    let a = c .before .before .before .before .args in
-    omega (arith, c .before .before .shared-slice-known2 .given (a .first + a .j))
+range-count-requires : tie.Need-range-count-requires
+range-count-requires c κs = search needs
 
 mul-from : tie.Need-mul-from
 mul-from c = search needs
@@ -46,16 +35,16 @@ same-length : tie.Need-same-length
 same-length c = search needs
 
 returns : tie.Need-returns
-returns c = leaf-wrote _ _ _ _ _ refl (c .before .before .put-leaf .ensures)
+returns c =
+    let put = c .before .before in
+    leaf-wrote _ _ _ _ _ (put .before .before .before .range-count .ensures) (put .put-leaf .ensures)
 
 pub print-leaf-spec : {M : Type 1} → statement M
 print-leaf-spec =
     tie.close
     (tie.spec
-    add-count
-    mul-count
-    shared-slice-read-count
-    cast-count
+    add-range-count
+    range-count-requires
     mul-from
     add-end
     mul-put-leaf

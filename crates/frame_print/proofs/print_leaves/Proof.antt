@@ -3,7 +3,7 @@ use borrow.Author.Needs.{needs}
 use Prim.Native.Nat.{suc, _-_, _≤_}
 use native.Mathlib.Omega.{arith}
 use native.Mathlib.Nat.{mul-le-mul-right}
-use Rattle.call_outcomes.specs.Outcome.{storeOf}
+use Rattle.call_outcomes.specs.Plain.{storeOf}
 use Rattle.frame_replies.specs.WroteLaws.{wrote-length}
 use Rattle.frame_print.specs.Printed.{LeavesWritten}
 use Rattle.frame_print.specs.PrintLaws.{leaves-start, leaves-room, leaves-next, leaves-done}
@@ -21,11 +21,14 @@ loop-holds c = leaves-start (search needs)
 
 print-leaf-requires : tie.Need-print-leaf-requires Inv-loop μ-loop
 print-leaf-requires c κs =
-    let a = c .before .before .before .before .before .before .args in
+    let start = c .before .before .before .before .before .before in
     let j = c .before .before .loop .j in
-    let next : suc j ≤ a .leaves = c .before .loop-test .taken in (
-      omega (arith, mul-le-mul-right (a .s) next, c .before .before .before .before .before .before .pre .0),
-      (omega (arith, c .before .before .before .before .before .before .pre .1 .0), leaves-room (c .before .before .loop .inv) (c .before .loop-test .taken)),
+    let next : suc j ≤ start .args .leaves = c .before .loop-test .taken in (
+      omega (arith, mul-le-mul-right (start .args .s) next, start .pre .0),
+      (
+        omega (arith, start .pre .1 .0),
+        (start .pre .1 .1 .0, leaves-room (c .before .before .loop .inv) (c .before .loop-test .taken)),
+      ),
     )
 
 add-j : tie.Need-add-j Inv-loop μ-loop

@@ -3,7 +3,7 @@ use borrow.Author.Needs.{needs}
 use native.Mathlib.Omega.{arith}
 use Rattle.frame_replies.specs.WroteLaws.{wrote-room}
 use Rattle.frame_replies.specs.DigitLaws.{length-brief}
-use Rattle.frame_print.specs.PrintLaws.{print-refused, print-accepted, printable}
+use Rattle.frame_print.specs.PrintLaws.{print-refused, print-accepted, printable, print-room}
 use Rattle.frame_print.proofs.print_line.Statement.{statement}
 use Rattle.frame_print.proofs.print_line.Tie as tie
 
@@ -30,7 +30,8 @@ print-sheet-requires c κs =
     let first = c .before .before .before .before in
     let back = first .before .before in (
       printable _ _ _ _ _ (back .before .check .ensures) (back .returned .ensures) (c .before .if1 .left),
-      wrote-room (first .answer .ensures) 9 69003 (length-brief _ _ _) (omega arith),
+      wrote-room (first .answer .ensures) 9 _ (length-brief _ _ _)
+          (omega (arith, print-room _ _ _ _ _ (back .before .check .ensures) (back .returned .ensures) (c .before .if1 .left))),
     )
 
 same-length-2 : tie.Need-same-length-2

@@ -2,15 +2,16 @@
 use borrow.Author.Needs.{needs}
 use native.Mathlib.Omega.{arith}
 use denote.Ref.{now}
-use Rattle.call_outcomes.specs.Outcome.{storeOf}
+use Rattle.call_outcomes.specs.Plain.{storeOf}
 use Rattle.frame_replies.specs.WroteLaws.{wrote-room}
 use Rattle.frame_replies.specs.DigitLaws.{length-sheet}
-use Rattle.frame_print.specs.PrintLaws.{LeafNumbers, height-fits, leaf-numbers, sheet-empty, sheet-leaves}
+use Rattle.frame_print.specs.Printed.{leavesMost}
+use Rattle.frame_print.specs.PrintLaws.{LeafNumbers, size-there, height-fits, leaf-numbers, sheet-empty, sheet-leaves}
 use Rattle.frame_print.proofs.print_sheet.Statement.{statement}
 use Rattle.frame_print.proofs.print_sheet.Tie as tie
 
 shared-slice-read-m : tie.Need-shared-slice-read-m
-shared-slice-read-m c = search needs
+shared-slice-read-m c = size-there _ (c .before .before .before .before .pre .0)
 
 cast-m : tie.Need-cast-m
 cast-m c = search needs
@@ -53,8 +54,10 @@ numbers c =
 print-leaves-requires : tie.Need-print-leaves-requires
 print-leaves-requires c κs =
     let n = numbers (c .before) in
-    let put = c .before .before .before .before .before .before .before .put-sheet in
-    (n .slots-fit, (n .counts-fit, omega (arith, n .output-fits, wrote-room (put .ensures) 11 68992 (length-sheet _ _) (omega arith))))
+    let put = c .before .before .before .before .before .before .before in
+    let start = put .before .before .before .before .before .before .before in
+    let most = leavesMost (storeOf (now (start .args .slots)) (now (start .args .counts))) in
+    (n .slots-fit, (n .counts-fit, (n .ranges-fit, omega (arith, n .output-fits, wrote-room (put .put-sheet .ensures) 11 most (length-sheet _ _) (omega arith)))))
 
 same-length-2 : tie.Need-same-length-2
 same-length-2 c = search needs

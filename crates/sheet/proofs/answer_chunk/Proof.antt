@@ -7,6 +7,7 @@ use lib.ListN.{length}
 use lib.Seq.{length-take-le}
 use Rattle.frame_input.specs.CollectLaws.{collected-further, collected-within}
 use Rattle.sheet.specs.Held.{Held}
+use Rattle.sheet.specs.Held.{lineRoom}
 use Rattle.sheet.proofs.answer_chunk.Statement.{statement}
 use Rattle.sheet.proofs.answer_chunk.Tie as tie
 
@@ -28,8 +29,8 @@ collect-requires c κs = search needs
 answer-requires : tie.Need-answer-requires Inv-loop μ-loop
 answer-requires c κs =
     let k = c .before .before .before .before .before in
-    let size : length (k .before .before .before .loop .line) ≡ 256 = k .before .collect-arg .given .0 .1 in
-    let held : k .collect .result .have ≤ 256 = rw size at
+    let size : length (k .before .before .before .loop .line) ≡ lineRoom = k .before .collect-arg .given .0 .1 in
+    let held : k .collect .result .have ≤ lineRoom = rw size at
     (collected-within _ _ _ _ (k .collect .result) _ (k .collect .ensures) (rw size (k .before .before .before .loop .inv .0))) in
     (held, k .before .before .before .loop .inv)
 

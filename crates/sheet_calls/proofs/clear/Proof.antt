@@ -1,24 +1,29 @@
 -- `clear` meets its contract.
 use Rattle.call_open.specs.OpeningLaws.{slots-wrong, counts-wrong}
-use Rattle.sheet_calls.specs.ClearLaws.{zeros-small, clear-wrong, clear-done}
+use Rattle.sheet_calls.specs.ClearLaws.{clear-wrong, clear-done}
+use Rattle.sheet_calls.specs.ClubsReady.{clubs-outcome}
 use borrow.Author.Needs.{needs}
 use Rattle.sheet_calls.proofs.clear.Statement.{statement}
 use Rattle.sheet_calls.proofs.clear.Tie as tie
 
+capacity-requires : tie.Need-capacity-requires
+capacity-requires c κs = search needs
+
 returns : tie.Need-returns
-returns c = clear-wrong _ _ (slots-wrong _ _ (c .if1 .taken))
+returns c =
+    let is = c .before .before .capacity .ensures in
+    clubs-outcome is _ _ _ _ (clear-wrong _ _ _ (slots-wrong _ _ _ (c .if1 .taken)))
 
 returns-2 : tie.Need-returns-2
-returns-2 c = clear-wrong _ _ (counts-wrong _ _ (c .if2 .taken))
+returns-2 c =
+    let is = c .before .before .before .before .capacity .ensures in
+    clubs-outcome is _ _ _ _ (clear-wrong _ _ _ (counts-wrong _ _ _ (c .if2 .taken)))
 
 zero-slots-requires : tie.Need-zero-slots-requires
 zero-slots-requires c κs = search needs
 
-slice-aggregate-narrow : tie.Need-slice-aggregate-narrow
-slice-aggregate-narrow c = search needs
-
-narrow-requires : tie.Need-narrow-requires
-narrow-requires c κs = (c .before .before .before .before .before .before .if2 .left, zeros-small)
+zero-counts-requires : tie.Need-zero-counts-requires
+zero-counts-requires c κs = search needs
 
 same-length : tie.Need-same-length
 same-length c = search needs
@@ -28,20 +33,22 @@ same-length-2 c = search needs
 
 returns-3 : tie.Need-returns-3
 returns-3 c =
-    let n = c .before .before in
-    let z = n .before .before .before .before .before in
-    let e = z .before .before in
-    clear-done _ _ _ _ (e .before .if1 .left) (e .if2 .left) (z .zero-slots .ensures) (n .narrow .ensures)
+    let k = c .before .before in
+    let z = k .before .before .before .before in
+    let b = z .before .before in
+    let a = b .before .before in
+    let is = a .before .before .capacity .ensures in
+    clubs-outcome is _ _ _ _ (clear-done _ _ _ _ _ (a .if1 .left) (b .if2 .left) (z .zero-slots .ensures) (k .zero-counts .ensures))
 
 pub clear-spec : {M : Type 1} → statement M
 clear-spec =
     tie.close
     (tie.spec
+    capacity-requires
     returns
     returns-2
     zero-slots-requires
-    slice-aggregate-narrow
-    narrow-requires
+    zero-counts-requires
     same-length
     same-length-2
     returns-3)

@@ -1,17 +1,24 @@
 -- `place` meets its contract.
 use mathlib.Core.Path.{refl}
 use native.Mathlib.Omega.{arith}
-use Rattle.call_outcomes.specs.Causes.{contentsFor}
-use Rattle.sheet_calls.specs.CallLaws.{call-admitted, call-refused, place-within, place-done}
+use Rattle.call_outcomes.specs.Plain.{placeOf}
+use Rattle.call_open.specs.AdmittedLaws.{call-admitted, call-refused}
+use Rattle.sheet_calls.specs.CallLaws.{place-small, place-done}
+use Rattle.sheet_calls.specs.ClubsReady.{clubs-ready, clubs-question}
 use borrow.Author.Needs.{needs}
 use Rattle.sheet_calls.proofs.place.Statement.{statement}
 use Rattle.sheet_calls.proofs.place.Tie as tie
+
+capacity-requires : tie.Need-capacity-requires
+capacity-requires c κs = search needs
 
 slice-aggregate-examine : tie.Need-slice-aggregate-examine
 slice-aggregate-examine c = search needs
 
 examine-requires : tie.Need-examine-requires
-examine-requires c κs = search needs
+examine-requires c κs =
+    let is = c .before .capacity .ensures in
+    (clubs-ready is, rw is refl)
 
 admit-rank-requires : tie.Need-admit-rank-requires
 admit-rank-requires c κs = search needs
@@ -22,7 +29,9 @@ enum-told c = search needs
 add-number : tie.Need-add-number
 add-number c =
     let a = c .before .before in
-    omega (arith, place-within _ _ _ _ (call-admitted _ _ _ _ (a .before .before .examine .ensures) (a .admit-rank .ensures) (c .enum-told .given .1)))
+    let x = a .before .before in
+    let is = x .before .before .capacity .ensures in
+    omega (arith, place-small (call-admitted _ _ _ (clubs-question is (x .examine .ensures) (placeOf _) (a .admit-rank .ensures)) (c .enum-told .given .1)))
 
 enum-known-cause : tie.Need-enum-known-cause
 enum-known-cause c = search needs
@@ -30,18 +39,23 @@ enum-known-cause c = search needs
 returns : tie.Need-returns
 returns c =
     let a = c .before .before in
-    place-done _ _ _ _ (call-admitted _ _ _ _ (a .before .before .examine .ensures) (a .admit-rank .ensures) (c .enum-told .given .1))
+    let x = a .before .before in
+    let is = x .before .before .capacity .ensures in
+    place-done (call-admitted _ _ _ (clubs-question is (x .examine .ensures) (placeOf _) (a .admit-rank .ensures)) (c .enum-told .given .1))
 
 returns-2 : tie.Need-returns-2
-unfolding contentsFor
 returns-2 c =
-    let a = c .before .before .before in
-    call-refused _ _ _ _ (a .before .before .examine .ensures) (a .admit-rank .ensures) _ _ refl (c .before .cause .given .1)
+    let n = c .before in
+    let a = n .before .before in
+    let x = a .before .before in
+    let is = x .before .before .capacity .ensures in
+    call-refused _ _ _ (clubs-question is (x .examine .ensures) (placeOf _) (a .admit-rank .ensures)) _ _ (n .cause .given .1)
 
 pub place-spec : {M : Type 1} → statement M
 place-spec =
     tie.close
     (tie.spec
+    capacity-requires
     slice-aggregate-examine
     examine-requires
     admit-rank-requires

@@ -8,6 +8,7 @@ use borrow.Fn.Kinds.{In}
 use borrow.Fn.PlainCycle.{Measures, is, falls, and}
 use Rattle.store_test.specs.Ready.{RangeTestReady}
 use Rattle.store_test.specs.TreeCheck.{branch-leaf, range-ready, left-ready, right-ready, branch-own, branch-left, branch-right}
+use Rattle.tree_sizes.proofs.Size.half_candidates.Reads as half
 use Rattle.store_test.proofs.range_is_balanced.Reads as range
 use Rattle.store_test.proofs.branch_is_balanced.Reads as reads
 use Rattle.store_test.proofs.branch_is_balanced.Kinds as kinds
@@ -22,7 +23,7 @@ abbrev entry : ℕ → In 1 kinds.ps
 entry t = and 1 kinds.ps (is 1 kinds.ps μ t) reads.Pre
 
 abbrev claims : ℕ → lts.Claims
-claims t = (range.Asked, range.Learnt, and 1 kinds.ps (falls 1 kinds.ps _<_ μ t) reads.Pre, reads.Post)
+claims t = (range.Asked, range.Learnt, half.Asked, half.Learnt, and 1 kinds.ps (falls 1 kinds.ps _<_ μ t) reads.Pre, reads.Post)
 
 module _ (t : ℕ) where
   ready : (c : lts.Else1 (claims t) (entry t) reads.Post)
@@ -40,55 +41,62 @@ module _ (t : ℕ) where
       let e = c .before .before in
       sym (branch-own (e .before .before .pre .1) (e .if1 .left) (c .before .range-is-balanced .ensures) (not-true _ (c .if2 .taken)))
 
-  sub-below : lts.Need-sub-below (claims t) (entry t) reads.Post
-  sub-below c = search needs
+  half-candidates-requires : lts.Need-half-candidates-requires (claims t) (entry t) reads.Post
+  half-candidates-requires c κs = search needs
 
   sub-branch-is-balanced : lts.Need-sub-branch-is-balanced (claims t) (entry t) reads.Post
   sub-branch-is-balanced c = search needs
 
   mul-branch-is-balanced : lts.Need-mul-branch-is-balanced (claims t) (entry t) reads.Post
-  mul-branch-is-balanced c = omega (arith, ready (c .before .before) .halves)
+  mul-branch-is-balanced c = omega (arith, ready (c .before .before .before) .halves)
 
   branch-is-balanced-requires : lts.Need-branch-is-balanced-requires (claims t) (entry t) reads.Post
   branch-is-balanced-requires c κs =
-      let e = c .before .before in (
+      let f = c .before in
+      let e = f .before .before in (
         omega arith,
-        left-ready (e .before .before .pre .1) (e .if1 .left) (c .before .range-is-balanced .ensures) (not-false _ (c .if2 .left)),
+        left-ready (e .before .before .pre .1) (e .if1 .left) (f .before .range-is-balanced .ensures) (not-false _ (f .if2 .left))
+            (c .half-candidates .ensures),
       )
 
   returns-3 : lts.Need-returns-3 (claims t) (entry t) reads.Post
   returns-3 c =
-      let f = c .before .before in
+      let h = c .before .before in
+      let f = h .before in
       let e = f .before .before in
       sym
       (branch-left (e .before .before .pre .1) (e .if1 .left) (f .before .range-is-balanced .ensures) (not-false _ (f .if2 .left))
+      (h .half-candidates .ensures)
       (c .before .branch-is-balanced .ensures) (not-true _ (c .if3 .taken)))
 
   sub-branch-is-balanced-2 : lts.Need-sub-branch-is-balanced-2 (claims t) (entry t) reads.Post
   sub-branch-is-balanced-2 c = search needs
 
   mul-branch-is-balanced-2 : lts.Need-mul-branch-is-balanced-2 (claims t) (entry t) reads.Post
-  mul-branch-is-balanced-2 c = omega (arith, ready (c .before .before .before .before) .halves)
+  mul-branch-is-balanced-2 c = omega (arith, ready (c .before .before .before .before .before) .halves)
 
   add-branch-is-balanced : lts.Need-add-branch-is-balanced (claims t) (entry t) reads.Post
-  add-branch-is-balanced c = omega (arith, ready (c .before .before .before .before) .halves)
+  add-branch-is-balanced c = omega (arith, ready (c .before .before .before .before .before) .halves)
 
   branch-is-balanced-requires-2 : lts.Need-branch-is-balanced-requires-2 (claims t) (entry t) reads.Post
   branch-is-balanced-requires-2 c κs =
-      let f = c .before .before in
+      let h = c .before .before in
+      let f = h .before in
       let e = f .before .before in (
         omega arith,
-        right-ready (e .before .before .pre .1) (e .if1 .left) (f .before .range-is-balanced .ensures) (not-false _ (f .if2 .left)),
+        right-ready (e .before .before .pre .1) (e .if1 .left) (f .before .range-is-balanced .ensures) (not-false _ (f .if2 .left))
+            (h .half-candidates .ensures),
       )
 
   returns-4 : lts.Need-returns-4 (claims t) (entry t) reads.Post
   returns-4 c =
       let g = c .before in
-      let f = g .before .before in
+      let h = g .before .before in
+      let f = h .before in
       let e = f .before .before in
       sym
       (branch-right (e .before .before .pre .1) (e .if1 .left) (f .before .range-is-balanced .ensures) (not-false _ (f .if2 .left))
-      (g .before .branch-is-balanced .ensures) (not-false _ (g .if3 .left)) (c .branch-is-balanced2 .ensures))
+      (h .half-candidates .ensures) (g .before .branch-is-balanced .ensures) (not-false _ (g .if3 .left)) (c .branch-is-balanced2 .ensures))
 
 pub +branch-is-balanced-spec : {M : Type 1} → statement M
 +branch-is-balanced-spec =
@@ -101,7 +109,7 @@ pub +branch-is-balanced-spec : {M : Type 1} → statement M
     (returns t)
     (range-is-balanced-requires t)
     (returns-2 t)
-    (sub-below t)
+    (half-candidates-requires t)
     (sub-branch-is-balanced t)
     (mul-branch-is-balanced t)
     (branch-is-balanced-requires t)

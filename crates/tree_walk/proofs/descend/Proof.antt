@@ -1,19 +1,25 @@
 -- `tree_walk::descend` meets its contract. The loop's invariant: the run of the walk is that from the present range on.
-use mathlib.Core.Path.{refl}
-use Prim.Native.Nat.{suc, _-_, _*_}
+use mathlib.Core.Path.{refl, subst}
+use mathlib.Core.Logic.{_≢_}
+use mathlib.Core.List.{[], _∷_}
+use Prim.Native.Nat.{ℕ, suc, _-_, _*_}
 use native.Mathlib.Omega.{arith}
+use types.Run.{OneOf, miss}
 use borrow.Author.Needs.{needs}
+use denote.Enum.Declared.{tagOf}
 use denote.Ref.{now}
 use lib.ListN.{getD}
-use Rattle.tree_walk.specs.Walk.{walkRun, Walking}
-use Rattle.tree_walk.specs.WalkLaws.{walking-start, above-walking, comparable, entries-most, node-bounds, balance-below, Seen, stop-leaf, stop-rebuild, stop-enter, stop-ended, pass, half-lower}
+use Rattle.tree_visit.proofs.Visited.{the-type}
+use Rattle.tree_visit.specs.declared.Visited.{Visited}
+use Rattle.tree_visit.specs.declared.Visited.the-variants.{Pass}
+use Rattle.tree_walk.specs.Walk.{Walking}
+use Rattle.tree_walk.specs.WalkLaws.{walking-start, above-walking, comparable, entries-most, node-bounds, balance-below, Seen, stop-leaf, stop-visit, pass, half-lower}
 use Rattle.tree_walk.proofs.descend.Statement.{statement}
 use Rattle.tree_walk.proofs.descend.Tie as tie
 
 abbrev Inv-loop : tie.InvT-loop
 Inv-loop n size counts₀ tape start range₀ at₀ counts range at =
-    Walking (range₀ .change) n (size .m) counts₀ tape (walkRun (range₀ .change) n (size .m) counts₀ tape start) counts (range .levels)
-    (range .depth) (range .k) (range .n) (range .change) at
+    Walking (range₀ .change) n (size .m) counts₀ tape start counts (range .levels) (range .depth) (range .k) (range .n) (range .change) at
 
 abbrev μ-loop : tie.MeasureT-loop
 μ-loop n size counts₀ tape start range₀ at₀ counts range at = range .levels
@@ -23,10 +29,13 @@ above : (c : tie.Else1 Inv-loop μ-loop) →
     let lp = c .before .before in
     let a = lp .before .before .before .before .args in
     let h = lp .loop in
-    Walking (a .change) (a .n) (a .size .m) (now (a .counts)) (now (a .tape))
-    (walkRun (a .change) (a .n) (a .size .m) (now (a .counts)) (now (a .tape)) (a .start)) (h .counts) (suc (h .range .levels - 1))
+    Walking (a .change) (a .n) (a .size .m) (now (a .counts)) (now (a .tape)) (a .start) (h .counts) (suc (h .range .levels - 1))
     (h .range .depth) (h .range .k) (h .range .n) (h .range .change) (h .at)
 above c = let h = c .before .before .loop in above-walking (h .range) (h .inv) (c .if1 .left)
+
+-- not passed
+no-pass : (v : Visited) → OneOf (1 ∷ 2 ∷ 3 ∷ []) (tagOf the-type v) → (next : ℕ) → v ≢ Pass next
+no-pass v h next e = miss (1 ∷ 2 ∷ 3 ∷ []) 0 tt (subst (λ (x : Visited). OneOf (1 ∷ 2 ∷ 3 ∷ []) (tagOf the-type x)) e h)
 
 seen : (c : tie.After-visit Inv-loop μ-loop) →
     let lp = c .before .before .before .before .before in
@@ -41,9 +50,8 @@ height-requires c κs = search needs
 
 loop-holds : tie.Need-loop-holds Inv-loop μ-loop
 loop-holds c =
-    let a = c .before .before .before .args in
-    rw (c .height .ensures)
-    (walking-start (a .change) (a .n) (a .size .m) (now (a .counts)) (now (a .tape)) (a .start) (c .before .before .before .pre))
+    let st = c .before .before .before in
+    rw (c .height .ensures) (walking-start (st .pre) (now (st .args .tape)) (st .args .start))
 
 mul-b : tie.Need-mul-b Inv-loop μ-loop
 mul-b c = omega (arith, node-bounds (above c))
@@ -63,17 +71,8 @@ candidates-requires c κs = let l = node-bounds (above (c .before)) in (omega (a
 visit-requires : tie.Need-visit-requires Inv-loop μ-loop
 visit-requires c κs = rw (c .candidates .ensures) (comparable (above (c .before .before)))
 
-enum-known-next : tie.Need-enum-known-next Inv-loop μ-loop
-enum-known-next c = search needs
-
-enum-told : tie.Need-enum-told Inv-loop μ-loop
-enum-told c = search needs
-
-enum-known-into : tie.Need-enum-known-into Inv-loop μ-loop
-enum-known-into c = search needs
-
-enum-told-2 : tie.Need-enum-told-2 Inv-loop μ-loop
-enum-told-2 c = search needs
+enum-known-visited : tie.Need-enum-known-visited Inv-loop μ-loop
+enum-known-visited c = search needs
 
 after-requires : tie.Need-after-requires Inv-loop μ-loop
 after-requires c κs =
@@ -109,11 +108,11 @@ loop-less c =
 loop-again : tie.Need-loop-again Inv-loop μ-loop
 loop-again c =
     let aa = c .before in
-    let nx = aa .before .before in
-    let vs = nx .before .before in
+    let vd = aa .before .before in
+    let vs = vd .before .before in
     let el = vs .before .before .before in
     let h = el .before .before .loop in
-    pass (h .range) (h .inv) (el .if1 .left) (seen vs) _ _ _ (nx .next .given .1) (aa .after .ensures) (c .half .ensures)
+    pass (h .range) (h .inv) (el .if1 .left) (seen vs) _ _ _ (vd .visited .given .1) (aa .after .ensures) (c .half .ensures)
 
 same-length : tie.Need-same-length Inv-loop μ-loop
 same-length c = search needs
@@ -126,31 +125,10 @@ same-length-2 c = search needs
 
 returns-2 : tie.Need-returns-2 Inv-loop μ-loop
 returns-2 c =
-    let vs = c .before .before in
+    let vs = c .before in
     let el = vs .before .before .before in
     let h = el .before .before .loop in
-    stop-rebuild (h .range) (h .inv) (el .if1 .left) (seen vs) (c .enum-told .given .1)
-
-same-length-3 : tie.Need-same-length-3 Inv-loop μ-loop
-same-length-3 c = search needs
-
-returns-3 : tie.Need-returns-3 Inv-loop μ-loop
-returns-3 c =
-    let nt = c .before in
-    let vs = nt .before .before in
-    let el = vs .before .before .before in
-    let h = el .before .before .loop in
-    stop-enter (h .range) (h .inv) (el .if1 .left) (seen vs) _ _ (nt .into .given .1)
-
-same-length-4 : tie.Need-same-length-4 Inv-loop μ-loop
-same-length-4 c = search needs
-
-returns-4 : tie.Need-returns-4 Inv-loop μ-loop
-returns-4 c =
-    let vs = c .before .before in
-    let el = vs .before .before .before in
-    let h = el .before .before .loop in
-    stop-ended (h .range) (h .inv) (el .if1 .left) (seen vs) (c .enum-told2 .given .1)
+    stop-visit (h .range) (h .inv) (el .if1 .left) (seen vs) (no-pass _ (c .match .keys2))
 
 pub descend-spec : {M : Type 1} → statement M
 descend-spec =
@@ -166,10 +144,7 @@ descend-spec =
     cast-b
     candidates-requires
     visit-requires
-    enum-known-next
-    enum-told
-    enum-known-into
-    enum-told-2
+    enum-known-visited
     after-requires
     cast-counts
     mul-counts
@@ -180,8 +155,4 @@ descend-spec =
     same-length
     returns
     same-length-2
-    returns-2
-    same-length-3
-    returns-3
-    same-length-4
-    returns-4)
+    returns-2)

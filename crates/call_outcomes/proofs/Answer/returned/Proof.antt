@@ -3,7 +3,7 @@ use Prim.Native.Nat.{ℕ}
 use mathlib.Core.Path.{sym, _∙_, ap}
 use borrow.Author.Needs.{needs}
 use Rattle.call_outcomes.specs.declared.Returned.{Returned}
-use Rattle.call_outcomes.specs.Call.{returned}
+use Rattle.call_outcomes.specs.Returns.{returned}
 use Rattle.call_outcomes.proofs.Answer.returned.Statement.{statement}
 use Rattle.call_outcomes.proofs.Answer.returned.Tie as tie
 

@@ -1,12 +1,14 @@
--- `widen` meets its contract. The loop's invariant: the first i counts are copied.
+-- `read_counts` meets its contract. The loop's invariant: the first i counts are copied.
+use mathlib.Core.Path.{sym, _∙_}
 use Prim.Native.Nat.{_-_, _≤_}
 use native.Mathlib.Omega.{arith}
 use borrow.Author.Needs.{needs}
 use lib.ListN.{length}
 use Rattle.store_slices.specs.Pasted.{Pasted}
 use Rattle.store_slices.specs.PastedLaws.{copied-next, copied-all}
-use Rattle.store_slices.proofs.widen.Statement.{statement}
-use Rattle.store_slices.proofs.widen.Tie as tie
+use Rattle.store_counts.specs.SameOrder.{number-same}
+use Rattle.store_counts.proofs.read_counts.Statement.{statement}
+use Rattle.store_counts.proofs.read_counts.Tie as tie
 
 abbrev Inv-loop : tie.InvT-loop
 Inv-loop counts work₀ i₀ work i = (i ≤ length counts) × Pasted work₀ 0 counts i work
@@ -45,10 +47,10 @@ same-length : tie.Need-same-length Inv-loop μ-loop
 same-length c = search needs
 
 returns : tie.Need-returns Inv-loop μ-loop
-returns c = copied-all (c .before .loop .inv .1) (omega arith) (omega arith)
+returns c = copied-all (c .before .loop .inv .1) (omega arith) (omega arith) ∙ sym (number-same _ _)
 
-pub widen-spec : {M : Type 1} → statement M
-widen-spec =
+pub read-counts-spec : {M : Type 1} → statement M
+read-counts-spec =
     tie.close
     (tie.spec
     Inv-loop

@@ -1,8 +1,8 @@
--- `store_part::lay_part_by` meets its contract.
+-- `store_part::lay_part` meets its contract.
 use Rattle.store_part.specs.LayPartLaws.{gather-ready, gathered-part, zeroed-part, change-ready, entries-ready, laid-anew}
 use borrow.Author.Needs.{needs}
-use Rattle.store_part.proofs.lay_part_by.Statement.{statement}
-use Rattle.store_part.proofs.lay_part_by.Tie as tie
+use Rattle.store_part.proofs.lay_part.Statement.{statement}
+use Rattle.store_part.proofs.lay_part.Tie as tie
 
 part-from-requires : tie.Need-part-from-requires
 part-from-requires c κs = search needs
@@ -79,8 +79,8 @@ returns c =
     (z .before .before .larger .ensures) (z .zero-slots .ensures))
     (l .lay-entries .ensures)
 
-pub lay-part-by-spec : {M : Type 1} → statement M
-lay-part-by-spec =
+pub lay-part-spec : {M : Type 1} → statement M
+lay-part-spec =
     tie.close
     (tie.spec
     part-from-requires

@@ -1,14 +1,16 @@
--- `narrow` meets its contract. The loop's invariant: the first i counts are copied.
+-- `write_counts` meets its contract. The loop's invariant: the first i counts are copied.
+use mathlib.Core.Path.{sym, _∙_}
 use Prim.Native.Nat.{_-_, _^_, _≤_, _<_}
 use native.Mathlib.Omega.{arith}
 use borrow.Author.Needs.{needs}
 use denote.Ref.{now}
 use lib.ListN.{length}
 use Rattle.base.specs.ListLaws.{every-getD}
 use Rattle.store_slices.specs.Pasted.{Pasted}
 use Rattle.store_slices.specs.PastedLaws.{copied-next, copied-all}
-use Rattle.store_slices.proofs.narrow.Statement.{statement}
-use Rattle.store_slices.proofs.narrow.Tie as tie
+use Rattle.store_counts.specs.SameOrder.{count-same}
+use Rattle.store_counts.proofs.write_counts.Statement.{statement}
+use Rattle.store_counts.proofs.write_counts.Tie as tie
 
 abbrev Inv-loop : tie.InvT-loop
 Inv-loop work counts₀ i₀ counts i = (i ≤ length work) × Pasted counts₀ 0 work i counts
@@ -28,7 +30,7 @@ shared-slice-read-count c = search needs
 cast-counts : tie.Need-cast-counts Inv-loop μ-loop
 cast-counts c =
     let a = c .before .before .before in
-    omega (arith, every-getD (λ x. x < 2 ^ 16) (now (a .args .work)) (c .before .before .loop .i) 0 (a .pre .1) (omega arith))
+    omega (arith, every-getD (λ x. x < 2 ^ 16) (now (a .args .work)) (c .before .before .loop .i) 0 (a .pre .1 .0) (omega arith))
 
 mul-counts : tie.Need-mul-counts Inv-loop μ-loop
 mul-counts c = search needs
@@ -49,10 +51,10 @@ same-length : tie.Need-same-length Inv-loop μ-loop
 same-length c = search needs
 
 returns : tie.Need-returns Inv-loop μ-loop
-returns c = copied-all (c .before .loop .inv .1) (omega arith) (omega arith)
+returns c = copied-all (c .before .loop .inv .1) (omega arith) (omega arith) ∙ sym (count-same _ _)
 
-pub narrow-spec : {M : Type 1} → statement M
-narrow-spec =
+pub write-counts-spec : {M : Type 1} → statement M
+write-counts-spec =
     tie.close
     (tie.spec
     Inv-loop

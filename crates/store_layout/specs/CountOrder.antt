@@ -1,0 +1,40 @@
+-- The order in which the counts of the ranges stand in a store. Definitions only.
+use mathlib.Core.Path.{_≡_}
+use mathlib.Core.List.{List, [], _∷_}
+use Prim.Native.Nat.{ℕ, zero, suc, _*_, _^_, _≤_, _<_}
+use lib.ListN.{length, getD}
+
+-- The place of the count of range k, in a tree whose leaves stand h levels below its root: the order is that of the range numbers.
+unfoldable pub countPlace : ℕ → ℕ → ℕ
+countPlace h k = k
+
+-- The range whose count stands at place i.
+unfoldable pub rangeAt : ℕ → ℕ → ℕ
+rangeAt h i = i
+
+-- What the rest relies on of an order: places and ranges are inverse to each other; number 0, which is the size parameter, and the root
+-- keep their places, the other ranges of the tree stand among themselves, and no number behind them moves.
+pub record Permutes (h : ℕ) (place range : ℕ → ℕ) : Type 0 where
+  pub range-place : (k : ℕ) → range (place k) ≡ k
+  pub place-range : (i : ℕ) → place (range i) ≡ i
+  pub size-stays : place 0 ≡ 0
+  pub root-stays : place 1 ≡ 1
+  pub ranges-stay : (k : ℕ) → 0 < k → k < 2 * 2 ^ h → (0 < place k) × (place k < 2 * 2 ^ h)
+  pub unused-stay : (k : ℕ) → 2 * 2 ^ h ≤ k → place k ≡ k
+
+-- What a list has at the indices f i, f (i + 1), .., n in all, and 0 past its end.
+unfoldable pub pick : (ℕ → ℕ) → List ℕ → ℕ → ℕ → List ℕ
+pick f xs i zero = []
+pick f xs i (suc n) = getD xs (f i) 0 ∷ pick f xs (suc i) n
+
+-- The list of the same length that has at index i what the other has at index f i.
+unfoldable pub reorder : (ℕ → ℕ) → List ℕ → List ℕ
+reorder f xs = pick f xs 0 (length xs)
+
+-- Counts by range number, put into the order of the store.
+unfoldable pub countOrder : ℕ → List ℕ → List ℕ
+countOrder h counts = reorder (rangeAt h) counts
+
+-- Counts in the order of the store, put back into that of the range numbers.
+unfoldable pub numberOrder : ℕ → List ℕ → List ℕ
+numberOrder h counts = reorder (countPlace h) counts

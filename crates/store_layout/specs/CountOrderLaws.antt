@@ -1,0 +1,171 @@
+-- Laws of the order of the counts. Only `count-order` looks at the order: the rest follows from `Permutes`.
+use mathlib.Core.Path.{_≡_, refl, sym, ap, _∙_}
+use mathlib.Core.List.{List}
+use mathlib.Core.Logic.{⊎-elim}
+use Prim.Native.Nat.{ℕ, zero, suc, _+_, _*_, _^_, _≤_, _<_}
+use lib.ListN.{length, getD, List·getD-eq-default}
+use lib.Seq.{ext-getD}
+use native.Mathlib.Nat.{add-zero, add-suc, suc-add, zero-add, not-suc-le-zero}
+use native.Mathlib.Omega.{arith}
+use Rattle.base.specs.Lists.{Every}
+use Rattle.base.specs.CaseLaws.{lt-or-ge}
+use Rattle.base.specs.ListLaws.{every-at}
+use Rattle.store_layout.specs.CountOrder.{countPlace, rangeAt, Permutes, pick, reorder, countOrder, numberOrder}
+
+-- ---- the order
+
+pub count-order : (h : ℕ) → Permutes h (countPlace h) (rangeAt h)
+unfolding countPlace rangeAt
+count-order h = record {
+  range-place = λ k. refl;
+  place-range = λ i. refl;
+  size-stays = refl;
+  root-stays = refl;
+  ranges-stay = λ k low high. (low, high);
+  unused-stay = λ k high. refl;
+}
+
+-- What holds of the places holds of the ranges.
+permutes-back : (h : ℕ) (place range : ℕ → ℕ) → Permutes h place range → Permutes h range place
+permutes-back h place range p = record {
+  range-place = p .place-range;
+  place-range = p .range-place;
+  size-stays = rw (p .size-stays) at (p .range-place 0);
+  root-stays = rw (p .root-stays) at (p .range-place 1);
+  ranges-stay = λ i low high. (above i low, below i high);
+  unused-stay = λ i high. rw (p .unused-stay i high) at (p .range-place i);
+}
+  where
+    above : (i : ℕ) → 0 < i → 0 < range i
+    above i low =
+        ⊎-elim (λ (l : 0 < range i). l)
+        (λ (none : range i ≤ 0).
+        let zero-is : range i ≡ 0 = omega arith in
+        absurd (omega (arith, sym (p .place-range i) ∙ ap place zero-is ∙ p .size-stays)))
+        (lt-or-ge 0 (range i))
+
+    below : (i : ℕ) → i < 2 * 2 ^ h → range i < 2 * 2 ^ h
+    below i high =
+        ⊎-elim (λ (l : range i < 2 * 2 ^ h). l)
+        (λ (far : 2 * 2 ^ h ≤ range i). absurd (omega (arith, p .place-range i, p .unused-stay (range i) far)))
+        (lt-or-ge (range i) (2 * 2 ^ h))
+
+range-order : (h : ℕ) → Permutes h (rangeAt h) (countPlace h)
+range-order h = permutes-back h (countPlace h) (rangeAt h) (count-order h)
+
+-- ---- a list in another order
+
+module _ (f : ℕ → ℕ) (xs : List ℕ) where
+  length-pick : (i n : ℕ) → length (pick f xs i n) ≡ n
+  unfolding pick
+  length-pick i zero = refl
+  length-pick i (suc n) = ap suc (length-pick (suc i) n)
+
+  getD-pick : (i n j : ℕ) → j < n → getD (pick f xs i n) j 0 ≡ getD xs (f (i + j)) 0
+  unfolding pick
+  getD-pick i zero j l = absurd (not-suc-le-zero l)
+  getD-pick i (suc n) zero l = rw (add-zero i)
+  getD-pick i (suc n) (suc j) l = getD-pick (suc i) n j (omega arith) ∙ rw (suc-add i j, add-suc i j)
+
+  every-pick : (P : ℕ → Type 0) → Every P xs → P 0 → (i n : ℕ) → Every P (pick f xs i n)
+  unfolding pick Every
+  every-pick P p none i zero = tt
+  every-pick P p none i (suc n) = (every-at P xs (f i) 0 p none, every-pick P p none (suc i) n)
+
+  pub length-reorder : length (reorder f xs) ≡ length xs
+  unfolding reorder
+  length-reorder = length-pick 0 (length xs)
+
+  pub getD-reorder : (i : ℕ) → i < length xs → getD (reorder f xs) i 0 ≡ getD xs (f i) 0
+  unfolding reorder
+  getD-reorder i l = rw (zero-add i) at (getD-pick 0 (length xs) i l)
+
+  pub every-reorder : (P : ℕ → Type 0) → Every P xs → P 0 → Every P (reorder f xs)
+  unfolding reorder
+  every-reorder P p none = every-pick P p none 0 (length xs)
+
+  -- What stands at an index that stays is the same in both.
+  pub reorder-stays : (i : ℕ) → f i ≡ i → getD (reorder f xs) i 0 ≡ getD xs i 0
+  reorder-stays i stays =
+      ⊎-elim
+      (λ (l : i < length xs). getD-reorder i l ∙ rw stays)
+      (λ (g : length xs ≤ i). List·getD-eq-default (reorder f xs) 0 (rw length-reorder g) ∙ sym (List·getD-eq-default xs 0 g))
+      (lt-or-ge i (length xs))
+
+-- The other order undoes an order, where the list has all ranges.
+module _ (h : ℕ) (f g : ℕ → ℕ) (p : Permutes h f g) (xs : List ℕ) (fits : 2 * 2 ^ h ≤ length xs) where
+  inside : (i : ℕ) → i < length xs → f i < length xs
+  inside zero l = rw (p .size-stays) l
+  inside (suc i) l =
+      ⊎-elim
+      (λ (low : suc i < 2 * 2 ^ h). omega (arith, p .ranges-stay (suc i) (omega arith) low .1))
+      (λ (high : 2 * 2 ^ h ≤ suc i). rw (p .unused-stay (suc i) high) l)
+      (lt-or-ge (suc i) (2 * 2 ^ h))
+
+  pub reorder-back : reorder f (reorder g xs) ≡ xs
+  reorder-back =
+      ext-getD 0 (reorder f (reorder g xs)) xs (length-reorder f (reorder g xs) ∙ length-reorder g xs)
+      (λ i l.
+      let m : i < length xs = rw (length-reorder f (reorder g xs), length-reorder g xs) at l in
+      getD-reorder f (reorder g xs) i (rw (length-reorder g xs) m) ∙ getD-reorder g xs (f i) (inside i m) ∙ rw (p .range-place i))
+
+-- ---- the counts in the order of the store, and by range number
+
+module _ (h : ℕ) (xs : List ℕ) where
+  pub length-countOrder : length (countOrder h xs) ≡ length xs
+  unfolding countOrder
+  length-countOrder = length-reorder (rangeAt h) xs
+
+  pub length-numberOrder : length (numberOrder h xs) ≡ length xs
+  unfolding numberOrder
+  length-numberOrder = length-reorder (countPlace h) xs
+
+  pub getD-countOrder : (i : ℕ) → i < length xs → getD (countOrder h xs) i 0 ≡ getD xs (rangeAt h i) 0
+  unfolding countOrder
+  getD-countOrder = getD-reorder (rangeAt h) xs
+
+  pub getD-numberOrder : (k : ℕ) → k < length xs → getD (numberOrder h xs) k 0 ≡ getD xs (countPlace h k) 0
+  unfolding numberOrder
+  getD-numberOrder = getD-reorder (countPlace h) xs
+
+  -- The size parameter and the count of the root keep their places, and so do the numbers that are not in use.
+  pub countOrder-size : getD (countOrder h xs) 0 0 ≡ getD xs 0 0
+  unfolding countOrder
+  countOrder-size = reorder-stays (rangeAt h) xs 0 (range-order h .size-stays)
+
+  pub numberOrder-size : getD (numberOrder h xs) 0 0 ≡ getD xs 0 0
+  unfolding numberOrder
+  numberOrder-size = reorder-stays (countPlace h) xs 0 (count-order h .size-stays)
+
+  pub countOrder-root : getD (countOrder h xs) 1 0 ≡ getD xs 1 0
+  unfolding countOrder
+  countOrder-root = reorder-stays (rangeAt h) xs 1 (range-order h .root-stays)
+
+  pub numberOrder-root : getD (numberOrder h xs) 1 0 ≡ getD xs 1 0
+  unfolding numberOrder
+  numberOrder-root = reorder-stays (countPlace h) xs 1 (count-order h .root-stays)
+
+  pub countOrder-unused : (i : ℕ) → 2 * 2 ^ h ≤ i → getD (countOrder h xs) i 0 ≡ getD xs i 0
+  unfolding countOrder
+  countOrder-unused i far = reorder-stays (rangeAt h) xs i (range-order h .unused-stay i far)
+
+  pub numberOrder-unused : (i : ℕ) → 2 * 2 ^ h ≤ i → getD (numberOrder h xs) i 0 ≡ getD xs i 0
+  unfolding numberOrder
+  numberOrder-unused i far = reorder-stays (countPlace h) xs i (count-order h .unused-stay i far)
+
+  pub every-countOrder : (P : ℕ → Type 0) → Every P xs → P 0 → Every P (countOrder h xs)
+  unfolding countOrder
+  every-countOrder = every-reorder (rangeAt h) xs
+
+  pub every-numberOrder : (P : ℕ → Type 0) → Every P xs → P 0 → Every P (numberOrder h xs)
+  unfolding numberOrder
+  every-numberOrder = every-reorder (countPlace h) xs
+
+  -- Each order undoes the other, where the list has all ranges.
+  pub number-count : 2 * 2 ^ h ≤ length xs → numberOrder h (countOrder h xs) ≡ xs
+  unfolding countOrder numberOrder
+  number-count = reorder-back h (countPlace h) (rangeAt h) (count-order h) xs
+
+  pub count-number : 2 * 2 ^ h ≤ length xs → countOrder h (numberOrder h xs) ≡ xs
+  unfolding countOrder numberOrder
+  count-number = reorder-back h (rangeAt h) (countPlace h) (range-order h) xs
