@@ -9,6 +9,7 @@ pub mod KindLaws
 pub mod DecisionLaws
 pub mod ChangeLaws
 pub mod AnswerLaws
+pub mod LongerTapeLaws
 pub mod PlainLaws
 pub mod AcceptedLaws
 pub mod ClubsLaws

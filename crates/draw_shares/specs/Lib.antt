@@ -7,6 +7,7 @@ pub mod Rational
 pub mod Same
 pub mod ProgramLaws
 pub mod TapeLaws
+pub mod LongerTapeLaws
 pub mod RationalLaws
 pub mod Sum
 pub mod SameLaws
