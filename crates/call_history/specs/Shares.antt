@@ -1,9 +1,10 @@
 -- The table of shares of a history, for any kind of sheet, is not empty: its shares sum to 1, every sheet of its list has the share 1 / N
 -- times 1 / c for each range above the leaves, and every store with a share is a sheet of its list.
-use mathlib.Core.Path.{_≡_, _∙_, ap}
+use mathlib.Core.Path.{_≡_, sym, _∙_, ap}
+use mathlib.Core.Logic.{_↔_}
 use mathlib.Core.Bool.{true}
 use mathlib.Core.List.{List, [], _∷_}
-use Prim.Native.Nat.{ℕ}
+use Prim.Native.Nat.{ℕ, zero, suc, _<_}
 use native.Mathlib.Omega.{arith}
 use lib.ListN.{length}
 use Rattle.base.specs.BoolLaws.{tests-agree}
@@ -18,7 +19,7 @@ use Rattle.draw_shares.specs.Apart.{share-found, follows-share}
 use Rattle.tree_rules.specs.Tree.{Shape, IsShape}
 use Rattle.tree_canonical.specs.Canonical.{canonical}
 use Rattle.tree_canonical.specs.ShapeLaws.{canonical-ends}
-use Rattle.tree_canonical.specs.ShapeShare.{equalShapes, shapeProduct, canonical-share}
+use Rattle.tree_canonical.specs.ShapeShare.{equalShapes, shapeProduct, canonical-share, shape-product-pos}
 use Rattle.tree_canonical.specs.ShapeTest.{shapes-test}
 use Rattle.call_outcomes.specs.Kind.{View, LawfulView, SheetOf, Kind, Lawful, CallFor, StoreFor}
 use Rattle.call_outcomes.specs.KindLaws.{lay-injective}
@@ -32,6 +33,11 @@ no-sum : {S : Type 0} (cs : List (Course S)) → cs ≡ [] → sumShares (λ _. 
 unfolding sumShares
 no-sum [] e h = omega (arith, h)
 no-sum (c ∷ cs) e h = let z : _≡_ {A = ℕ} 0 1 = cc in omega arith
+
+unit-above : (m : ℕ) → 0 < m → ¬ (unit m ≐ whole 0)
+unfolding unit
+unit-above zero pos e = omega arith
+unit-above (suc m) pos e = omega (arith, e)
 
 module _ (view : View) (laws : LawfulView view) (list : List ℕ) (w : view .IsList list) where
   -- The tests of equality agree on stores laid out and their shapes.
@@ -86,6 +92,16 @@ module _ (kind : Kind) (lawful : Lawful kind) (calls : List (CallFor kind)) (sto
       (≐-trans (share test (history kind calls store)) (share test (sheetsOf (kind .view) end)) (whole 0)
       (same-shares (history-sheets kind lawful calls store right) test) z)) in
       rw (lawful .view .test .sound v (found .0) (found .2)) (found .1)
+
+  -- A store has a share above 0 exactly when it is a sheet of the list.
+  pub positive-sheets : (v : StoreFor kind) → (¬ (share (kind .view .equal v) (history kind calls store) ≐ whole 0)) ↔ SheetOf (kind .view) end v
+  positive-sheets v = (share-is-sheet v, λ w zero-is. none (w .shape) (w .is-shape) (rw (w .laid) at zero-is))
+    where
+      none : (s : Shape) → IsShape (length end) s → ¬ (share (kind .view .equal (kind .view .lay end s)) (history kind calls store) ≐ whole 0)
+      none s shape z =
+          unit-above (shapeProduct (length end) s) (shape-product-pos (length end) s shape)
+          (≐-trans (unit (shapeProduct (length end) s)) (share (kind .view .equal (kind .view .lay end s)) (history kind calls store)) (whole 0)
+          (sym (sheet-share s shape)) z)
 
   -- Every course ends with a sheet of the list.
   pub course-sheet : (faces : List ℕ) (v : StoreFor kind) → Follows (history kind calls store) faces v → SheetOf (kind .view) end v

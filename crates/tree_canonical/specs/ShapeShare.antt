@@ -4,6 +4,7 @@ use mathlib.Core.Bool.{Bool, true, false, _&&_}
 use mathlib.Core.Logic.{_≢_, ⊎-elim}
 use Prim.Native.Nat.{ℕ, zero, suc, _+_, _-_, _*_, _<_}
 use native.Mathlib.Omega.{arith}
+use native.Mathlib.Nat.{mul-pos}
 use borrow.Author.Tests.{eq-eqb, ne-eqb}
 use lib.Dec.{eqb}
 use Rattle.base.specs.CaseLaws.{eq-or-ne}
@@ -159,3 +160,18 @@ canonical-share N s w =
     expect-bind (canonicalSize N) (λ M. fresh M N) (λ u. indicator (equalShapes s u))
     ∙ expect-cong (canonicalSize N) (λ M. fresh-share M N s)
     ∙ size-share N s w
+
+-- ---- the product is not 0
+
+product-pos : (M levels d n : ℕ) (t : Tree) → Balanced M levels d n t → 0 < candidatesProduct M d t
+unfolding Balanced candidatesProduct
+product-pos M zero d n leaf w = omega arith
+product-pos M zero d n (node b l r) w = absurd w
+product-pos M (suc levels) d n leaf w = absurd w
+product-pos M (suc levels) d n (node b l r) w =
+    mul-pos (omega (arith, w .0 .from, w .0 .below)) (mul-pos (product-pos M levels (suc d) b l (w .1)) (product-pos M levels (suc d) (n - b) r (w .2)))
+
+pub shape-product-pos : (N : ℕ) (s : Shape) → IsShape N s → 0 < shapeProduct N s
+unfolding shapeProduct
+shape-product-pos zero s w = omega arith
+shape-product-pos (suc n) s w = mul-pos (omega arith) (product-pos (s .size) (height (s .size)) 0 (suc n) (s .tree) (w .balanced))
