@@ -1,7 +1,7 @@
 -- Demand 3 for the clubs' sheets.
 use mathlib.Core.Path.{_≡_}
 use mathlib.Core.Logic.{_↔_}
-use mathlib.Core.List.{List, [], _∷_}
+use mathlib.Core.List.{List, _∷_}
 use lib.ListN.{length}
 use Rattle.draw_shares.specs.Fraction.{_≐_, unit}
 use Rattle.draw_shares.specs.Course.{Follows, share}
@@ -9,12 +9,11 @@ use Rattle.draw_shares.specs.CourseLaws.{follows-unique}
 use Rattle.tree_rules.specs.Tree.{Shape, IsShape}
 use Rattle.tree_canonical.specs.ShapeShare.{shapeProduct}
 use Rattle.store_layout.specs.Layout.{Store, layOut}
-use Rattle.call_outcomes.specs.Kind.{clear}
 use Rattle.call_outcomes.specs.Plain.{RightLengths, equalStores, plainView, plain, Call}
 use Rattle.call_outcomes.specs.PlainLaws.{lengths-right}
 use Rattle.call_outcomes.specs.Clubs.{clubs}
 use Rattle.call_outcomes.specs.ClubsLaws.{clubs-lawful}
-use Rattle.call_history.specs.History.{history, listAtEnd, SameTable, Sent, lastStore, NoneEnds, facesSent, callsOf}
+use Rattle.call_history.specs.History.{history, listAtEnd, SameTable, Sent, clearing, lastStore, NoneEnds, facesSent, callsOf}
 use Rattle.call_history.specs.Words.{words-decide}
 use Rattle.call_history.specs.Independence.{history-independent}
 use Rattle.call_history.specs.Shares.{sheet-share}
@@ -27,18 +26,14 @@ pub clause : (calls calls′ : List Call) (store store′ : Store) → RightLeng
 clause calls calls′ store store′ right right′ =
     history-independent (plain clubs) clubs-lawful calls calls′ store store′ (lengths-right clubs store right) (lengths-right clubs store′ right′)
 
--- clearing, as the first call of a history
-unfoldable pub clearing : Sent Call
-clearing = record { call = clear; tape = []; output = [] }
-
 -- For every history and whatever words the tapes of its calls hold: if no call returns 7, the calls leave exactly the store with which the
 -- course ends whose faces those words decide.
-pub words : (sent : List (Sent Call)) (store : Store) → NoneEnds (plain clubs) (clearing ∷ sent) store → (final : Store)
-    → Follows (history (plain clubs) (callsOf sent) store) (facesSent (plain clubs) (clearing ∷ sent) store) final
-    ↔ (final ≡ lastStore (plain clubs) (clearing ∷ sent) store)
+pub words : (sent : List (Sent Call)) (store : Store) → NoneEnds (plain clubs) (clearing (plain clubs) ∷ sent) store → (final : Store)
+    → Follows (history (plain clubs) (callsOf sent) store) (facesSent (plain clubs) (clearing (plain clubs) ∷ sent) store) final
+    ↔ (final ≡ lastStore (plain clubs) (clearing (plain clubs) ∷ sent) store)
 unfolding history callsOf clearing
 words sent store none final =
-    let course = words-decide (plain clubs) (clearing ∷ sent) store none in
+    let course = words-decide (plain clubs) (clearing (plain clubs) ∷ sent) store none in
     (λ other. follows-unique _ _ final _ other course, λ e. rw e course)
 
 -- Each sheet of the list at the end has the share 1 / N times 1 / c for each range above the leaves.

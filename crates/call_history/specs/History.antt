@@ -61,6 +61,10 @@ pub record Sent (Call : Type 0) : Type 0 where
 abbrev pub SentTo : Kind → Type 0
 SentTo kind = Sent (CallFor kind)
 
+-- Clearing, as the first call of a history.
+unfoldable pub clearing : (kind : Kind) → SentTo kind
+clearing kind = record { call = clear; tape = []; output = [] }
+
 -- The store after a call, by the outcome of its contract; and after all of them.
 unfoldable pub storeAfter : (kind : Kind) → SentTo kind → StoreFor kind → StoreFor kind
 storeAfter kind sent store = outcome kind (sent .call) (sent .tape) store (sent .output) .store

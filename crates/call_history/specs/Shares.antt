@@ -24,7 +24,8 @@ use Rattle.tree_canonical.specs.ShapeTest.{shapes-test}
 use Rattle.call_outcomes.specs.Kind.{View, LawfulView, SheetOf, Kind, Lawful, CallFor, StoreFor}
 use Rattle.call_outcomes.specs.KindLaws.{lay-injective}
 use Rattle.call_outcomes.specs.Causes.{argumentCause, decision}
-use Rattle.call_history.specs.History.{history, listAtEnd, refusalOf}
+use Rattle.call_history.specs.History.{history, listAtEnd, refusalOf, SentTo, clearing, lastStore, NoneEnds, callsOf}
+use Rattle.call_history.specs.Words.{words-decide}
 use Rattle.call_history.specs.CallKeeps.{sheetsOf, sheets-end, sheets-live, sheet-refusal}
 use Rattle.call_history.specs.Independence.{end-list, history-sheets}
 
@@ -114,3 +115,11 @@ module _ (kind : Kind) (lawful : Lawful kind) (calls : List (CallFor kind)) (sto
   refusals faces v follows call =
       let w = course-sheet faces v follows in
       rw (w .laid) (sheet-refusal kind lawful end (w .shape) (w .is-list) (w .is-shape) call)
+
+-- Whatever words the tapes hold, if no call returns 7, the last store is a sheet of the list at the end.
+pub last-sheet : (kind : Kind) (lawful : Lawful kind) (sent : List (SentTo kind)) (store : StoreFor kind) → kind .view .rightLengths store ≡ true
+    → NoneEnds kind (clearing kind ∷ sent) store
+    → SheetOf (kind .view) (listAtEnd kind (callsOf sent)) (lastStore kind (clearing kind ∷ sent) store)
+unfolding history callsOf clearing
+last-sheet kind lawful sent store right none =
+    course-sheet kind lawful (callsOf sent) store right _ _ (words-decide kind (clearing kind ∷ sent) store none)
