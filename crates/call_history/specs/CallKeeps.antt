@@ -56,7 +56,7 @@ module _ (view : View) where
       (bind-cong-left (λ s. done (view .lay (applied edit list) s)) (update-keeps (edit .change) (length list) reach)))
 
 -- The program of a call on the sheet of the list with this shape: refused by a cause of the arguments, or accepted.
-unfoldable programOn : (kind : Kind) → List ℕ → Shape → CallFor kind → Option Cause → Program (kind .view .Store)
+unfoldable pub programOn : (kind : Kind) → List ℕ → Shape → CallFor kind → Option Cause → Program (kind .view .Store)
 programOn kind list s call none = effect kind call (record { list = list; shape = s }) (kind .view .lay list s)
 programOn kind list s call (some cause) = done (kind .view .lay list s)
 
@@ -96,7 +96,7 @@ module _ (kind : Kind) (lawful : Lawful kind) where
     looked (ask q) =
         (record { list = list; shape = s }, store-decided (kind .view) sheet _ (lawful .view .lengths list s w shape) (lawful .view .complete list s w shape), refl, refl)
 
-    sheet-program : (call : CallFor kind) → callProgram kind call sheet ≡ programOn kind list s call (argumentCause kind call list)
+    pub sheet-program : (call : CallFor kind) → callProgram kind call sheet ≡ programOn kind list s call (argumentCause kind call list)
     unfolding callProgram decision callProgramBy programOn
     sheet-program call =
         let l = looked call in

@@ -2,6 +2,7 @@
 pub mod History
 pub mod Words
 pub mod CallKeeps
+pub mod NextSheet
 pub mod Independence
 pub mod Shares
 pub mod Clause

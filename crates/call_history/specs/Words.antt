@@ -17,7 +17,7 @@ use Rattle.call_history.specs.History.{runCalls, SentTo, storeAfter, las
 
 module _ (kind : Kind) where
   -- One call: its program run on its tape ends with the store of its outcome, unless it returns 7.
-  call-follows : (call : CallFor kind) (tape : List ℕ) (store : StoreFor kind) (output : List ℕ)
+  pub call-follows : (call : CallFor kind) (tape : List ℕ) (store : StoreFor kind) (output : List ℕ)
       → outcome kind call tape store output .answer ≢ Refused TapeEnded
       → Follows (callProgram kind call store) (facesOn (callProgram kind call store) tape 0) (outcome kind call tape store output .store)
   unfolding outcome callProgram finished refused callProgramBy outcomeBy

@@ -36,8 +36,8 @@ run-bind (draw m p) k tape at = go (drawAt m tape at) (λ f n. run-bind (p f) k 
     go (Face f n) ih = ih f n
     go Ended ih = refl
 
--- a run of faces ends with a value that the program can end with
-follows-ends : {A : Type 0} (R : A → Type 0) (p : Program A) (faces : List ℕ) (a : A) → Ends R p → Follows p faces a → R a
+-- A course ends with a value that the program can end with.
+pub follows-ends : {A : Type 0} (R : A → Type 0) (p : Program A) (faces : List ℕ) (a : A) → Ends R p → Follows p faces a → R a
 unfolding Ends Follows
 follows-ends R (done b) [] a e h = subst R h e
 follows-ends R (done b) (f ∷ fs) a e h = absurd h
