@@ -3,6 +3,8 @@ pub mod History
 pub mod Words
 pub mod CallKeeps
 pub mod NextSheet
+pub mod Refusals
 pub mod Independence
 pub mod Shares
 pub mod Clause
+pub mod ClubSheets

@@ -15,6 +15,7 @@ pub mod NumberedLaws
 pub mod LayoutLaws
 pub mod RoomLaws
 pub mod SheetLaws
+pub mod EmptyLaws
 pub mod LeafLoop
 pub mod LeavesLoop
 pub mod GatherLoop
