@@ -6,7 +6,7 @@ use Prim.Native.Nat.{ℕ}
 use lib.ListN.{length}
 use Rattle.base.specs.Cases.{ifLe}
 use Rattle.draw_shares.specs.Program.{Program, done, _>>=_, Live, Ends}
-use Rattle.draw_shares.specs.ProgramLaws.{done-bind, bind-bind, live-bind, live-done, ends-bind, ends-done}
+use Rattle.draw_shares.specs.ProgramLaws.{done-bind, bind-bind, draws-bind, draws-done, ends-bind, ends-done}
 use Rattle.draw_shares.specs.Same.{_≈_}
 use Rattle.draw_shares.specs.SameLaws.{≈-refl, ≈-sym, ≈-trans, ≈-path, bind-cong-left, bind-cong-ends, bind-const}
 use Rattle.tree_sizes.specs.Sizes.{height}
@@ -43,7 +43,7 @@ module _ (view : View) where
 
   pub sheets-live : (list : List ℕ) → Live (sheetsOf view list)
   unfolding sheetsOf
-  sheets-live list = live-bind (canonical (length list)) _ (canonical-live (length list)) (λ s. live-done (view .lay list s))
+  sheets-live list = draws-bind _ (canonical (length list)) _ (canonical-live (length list)) (λ s. draws-done _ (view .lay list s))
 
   -- An edit in reach leads from the sheets of a list to those of the edited list.
   edited-keeps : (edit : Edit) (list : List ℕ) → InReach (edit .change) (length list)

@@ -9,7 +9,7 @@ use native.Mathlib.Omega.{arith}
 use Rattle.draw_shares.specs.Fraction.{_≐_, whole}
 use Rattle.draw_shares.specs.Rational.{Rational, _⊕_, nat, inv, same-value, crosswise}
 use Rattle.draw_shares.specs.RationalLaws.{mul-zero, mul-assoc, one-mul, zero-add, add-comm, nat-inv, zero-left, one-not-zero}
-use Rattle.draw_shares.specs.Program.{Program, done, draw, Live, Ends}
+use Rattle.draw_shares.specs.Program.{Program, done, draw, Live, Draws, Ends}
 use Rattle.draw_shares.specs.Course.{Follows, share}
 use Rattle.draw_shares.specs.Same.{sum, mean, expect}
 use Rattle.draw_shares.specs.Sum.{sum-suc}
@@ -85,7 +85,7 @@ module _ {A : Type 0} where
 
   -- A live program allows some run of faces.
   pub some-run : (R : A → Type 0) (p : Program A) → Live p → Ends R p → (faces : List ℕ) × (a : A) × Follows p faces a × R a
-  unfolding Live Ends Follows
+  unfolding Draws Ends Follows
   some-run R (done a) l e = ([], a, refl, e)
   some-run R (draw m p) l e =
       let r = some-run R (p 0) (l .1 0 (l .0)) (e 0 (l .0)) in

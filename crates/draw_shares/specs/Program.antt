@@ -13,10 +13,14 @@ _>>=_ (done a) k = k a
 _>>=_ (draw m p) k = draw m (λ face. p face >>= k)
 
 module _ {A : Type 0} where
+  -- P holds of the number of faces of every draw that can come.
+  unfoldable pub Draws : (ℕ → Type 0) → Program A → Type 0
+  Draws P (done a) = Unit {0}
+  Draws P (draw m p) = P m × ((face : ℕ) → face < m → Draws P (p face))
+
   -- Every draw that can come has a face.
-  unfoldable pub Live : Program A → Type 0
-  Live (done a) = Unit {0}
-  Live (draw m p) = (0 < m) × ((face : ℕ) → face < m → Live (p face))
+  abbrev pub Live : Program A → Type 0
+  Live = Draws (λ m. 0 < m)
 
   -- R holds of every value that the program can end with.
   unfoldable pub Ends : (A → Type 0) → Program A → Type 0

@@ -1,7 +1,7 @@
 -- Laws of sequencing, and of what every run of a program meets.
 use mathlib.Core.Path.{_≡_, refl, ap, fun-ext}
 use Prim.Native.Nat.{ℕ}
-use Rattle.draw_shares.specs.Program.{Program, done, draw, _>>=_, Live, Ends}
+use Rattle.draw_shares.specs.Program.{Program, done, draw, _>>=_, Draws, Ends}
 
 module _ {A B : Type 0} where
   pub done-bind : (a : A) (k : A → Program B) → done a >>= k ≡ k a
@@ -12,24 +12,25 @@ module _ {A B : Type 0} where
   unfolding _>>=_
   draw-bind m p k = refl
 
-  pub live-bind : (p : Program A) (k : A → Program B) → Live p → ((a : A) → Live (k a)) → Live (p >>= k)
-  unfolding Live _>>=_
-  live-bind (done a) k l h = h a
-  live-bind (draw m p) k l h = (l .0, λ f i. live-bind (p f) k (l .1 f i) h)
+  pub draws-bind : (P : ℕ → Type 0) (p : Program A) (k : A → Program B) → Draws P p → ((a : A) → Draws P (k a)) → Draws P (p >>= k)
+  unfolding Draws _>>=_
+  draws-bind P (done a) k l h = h a
+  draws-bind P (draw m p) k l h = (l .0, λ f i. draws-bind P (p f) k (l .1 f i) h)
 
-  pub live-bind-ends : (R : A → Type 0) (p : Program A) (k : A → Program B) → Live p → Ends R p → ((a : A) → R a → Live (k a)) → Live (p >>= k)
-  unfolding Live Ends _>>=_
-  live-bind-ends R (done a) k l e h = h a e
-  live-bind-ends R (draw m p) k l e h = (l .0, λ f i. live-bind-ends R (p f) k (l .1 f i) (e f i) h)
+  pub draws-bind-ends : (P : ℕ → Type 0) (R : A → Type 0) (p : Program A) (k : A → Program B) → Draws P p → Ends R p → ((a : A) → R a → Draws P (k a))
+      → Draws P (p >>= k)
+  unfolding Draws Ends _>>=_
+  draws-bind-ends P R (done a) k l e h = h a e
+  draws-bind-ends P R (draw m p) k l e h = (l .0, λ f i. draws-bind-ends P R (p f) k (l .1 f i) (e f i) h)
 
   pub ends-bind : (R : A → Type 0) (Q : B → Type 0) (p : Program A) (k : A → Program B) → Ends R p → ((a : A) → R a → Ends Q (k a)) → Ends Q (p >>= k)
   unfolding Ends _>>=_
   ends-bind R Q (done a) k e h = h a e
   ends-bind R Q (draw m p) k e h = λ f l. ends-bind R Q (p f) k (e f l) h
 
-pub live-done : {A : Type 0} (a : A) → Live (done a)
-unfolding Live
-live-done a = tt
+pub draws-done : {A : Type 0} (P : ℕ → Type 0) (a : A) → Draws P (done a)
+unfolding Draws
+draws-done P a = tt
 
 pub ends-done : {A : Type 0} (R : A → Type 0) (a : A) → R a → Ends R (done a)
 unfolding Ends

@@ -3,7 +3,7 @@ use mathlib.Core.Path.{_≡_, refl, sym, _∙_, ap, fun-ext}
 use Prim.Native.Nat.{ℕ, _<_}
 use native.Mathlib.Omega.{arith}
 use Rattle.draw_shares.specs.Rational.{Rational, _⊕_, _⊗_}
-use Rattle.draw_shares.specs.Program.{Program, done, draw, _>>=_, Live, Ends}
+use Rattle.draw_shares.specs.Program.{Program, done, draw, _>>=_, Live, Draws, Ends}
 use Rattle.draw_shares.specs.Same.{mean, expect, _≈_}
 use Rattle.draw_shares.specs.Sum.{mean-cong, mean-const, mean-swap, mean-mul, mean-add}
 
@@ -37,7 +37,7 @@ module _ {A : Type 0} where
   expect-mul (draw n p) x g = mean-cong n (λ f l. expect-mul (p f) x g) ∙ mean-mul n x (λ f. expect (p f) g)
 
   pub expect-const : (p : Program A) (x : Rational) → Live p → expect p (λ a. x) ≡ x
-  unfolding expect Live
+  unfolding expect Draws
   expect-const (done a) x l = refl
   expect-const (draw m p) x l = mean-cong m (λ f h. expect-const (p f) x (l .1 f h)) ∙ mean-const m x (l .0)
 

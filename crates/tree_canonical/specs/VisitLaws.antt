@@ -4,8 +4,8 @@ use mathlib.Core.Logic.{_≢_, ⊎-elim}
 use Prim.Native.Nat.{ℕ, zero, suc, _+_}
 use Rattle.base.specs.Cases.{ifEq}
 use Rattle.base.specs.CaseLaws.{ifEq-yes, ifEq-no, eq-or-ne}
-use Rattle.draw_shares.specs.Program.{Program, done, draw, _>>=_, Live}
-use Rattle.draw_shares.specs.ProgramLaws.{done-bind, bind-bind, live-bind, live-done}
+use Rattle.draw_shares.specs.Program.{Program, done, draw, _>>=_, Live, Draws}
+use Rattle.draw_shares.specs.ProgramLaws.{done-bind, bind-bind, draws-bind, draws-done}
 use Rattle.draw_shares.specs.Same.{_≈_}
 use Rattle.draw_shares.specs.SameLaws.{≈-refl, ≈-trans, ≈-sym, ≈-path, bind-cong-left, bind-cong-right, bind-const, bind-swap, draw-cong, draw-commutes}
 use Rattle.tree_sizes.specs.Sizes.{candidates, windowStart, Fits}
@@ -37,10 +37,10 @@ join-right b p q k = bind-cong-right p (λ l. ≈-sym (≈-path (bind-bind q k (
 
 pub live-join : (b : ℕ) (p q : Program Tree) → Live p → Live q → Live (join b p q)
 unfolding join
-live-join b p q l h = live-bind p _ l (λ t. live-bind q _ h (λ r. live-done (node b t r)))
+live-join b p q l h = draws-bind _ p _ l (λ t. draws-bind _ q _ h (λ r. draws-done _ (node b t r)))
 
 pub live-rebuild : (M levels d n : ℕ) → Fits M levels d n → Live (rebuild M levels d n)
-unfolding rebuild Live
+unfolding rebuild Draws
 live-rebuild M zero d n fits = tt
 live-rebuild M (suc levels) d n fits = (
   fits-pos M levels d n fits,
