@@ -11,4 +11,5 @@ pub mod ChangeListLaws
 pub mod CompareLaws
 pub mod MoveLaws
 pub mod ShapeLaws
+pub mod DrawBounds
 pub mod Examples
