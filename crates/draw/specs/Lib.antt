@@ -2,6 +2,7 @@
 pub mod Draw
 pub mod DrawLaws
 pub mod LongerTapeLaws
+pub mod WordLaws
 pub mod Runs
 pub mod Fair
 pub mod Examples

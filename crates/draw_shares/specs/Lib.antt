@@ -8,6 +8,8 @@ pub mod Same
 pub mod ProgramLaws
 pub mod TapeLaws
 pub mod LongerTapeLaws
+pub mod CourseTape
+pub mod CourseTapeLaws
 pub mod RationalLaws
 pub mod Sum
 pub mod SameLaws
