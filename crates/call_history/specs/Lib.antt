@@ -6,5 +6,6 @@ pub mod NextSheet
 pub mod Refusals
 pub mod Independence
 pub mod Shares
+pub mod Supply
 pub mod Clause
 pub mod ClubSheets

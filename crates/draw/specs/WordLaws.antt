@@ -1,14 +1,14 @@
 -- For every face of a draw among 1 to 2 ^ 32 there is a word that decides it: the face itself.
-use mathlib.Core.Path.{_≡_, refl, sym, ap, _∙_}
+use mathlib.Core.Path.{_≡_, _∙_}
 use mathlib.Core.Logic.{_≢_}
 use mathlib.Core.List.{List, _∷_, _++_}
-use Prim.Native.Nat.{ℕ, zero, suc, _+_, _*_, _/_, _%_, _≤_, _<_, _^_}
+use Prim.Native.Nat.{ℕ, zero, suc, _+_, _*_, _/_, _≤_, _<_, _^_}
 use native.Mathlib.Nat.{lt-mul-div-succ, le-mul-of-pos-right, mod-eq-of-lt}
 use native.Mathlib.Omega.{arith}
-use lib.ListN.{length, drop}
+use lib.ListN.{length}
 use lib.Seq.{drop-append-seam}
 use Rattle.draw.specs.declared.Drawn.the-variants.{Face}
-use Rattle.draw.specs.Draw.{scan, drawAt}
+use Rattle.draw.specs.Draw.{drawAt}
 use Rattle.draw.specs.DrawLaws.{scan-take, draw-many}
 
 div-pos : (W m : ℕ) → 0 < m → m ≤ W → 0 < W / m

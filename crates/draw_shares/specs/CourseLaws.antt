@@ -1,5 +1,5 @@
 -- `courses` lists each run of faces that the program allows exactly once, with the value that it ends with.
-use mathlib.Core.Path.{_≡_, refl, sym, _∙_}
+use mathlib.Core.Path.{_≡_, refl, sym, _∙_, ap}
 use mathlib.Core.Logic.{_≢_, ⊎-elim}
 use mathlib.Core.List.{List, [], _∷_, _++_, map}
 use Prim.Native.Nat.{ℕ, zero, suc, _+_, _≤_, _<_}
@@ -90,3 +90,27 @@ follows-bind (done x) k [] gs a b e h = rw e h
 follows-bind (done x) k (f ∷ fs) gs a b e h = absurd e
 follows-bind (draw m p) k [] gs a b e h = absurd e
 follows-bind (draw m p) k (f ∷ fs) gs a b e h = (e .0, follows-bind (p f) k fs gs a b (e .1) h)
+
+-- A course of a program and then of what follows: the two courses.
+pub record Apart {A B : Type 0} (p : Program A) (k : A → Program B) (faces : List ℕ) (b : B) : Type 0 where
+  pub first : List ℕ
+  pub rest : List ℕ
+  pub middle : A
+  pub joined : first ++ rest ≡ faces
+  pub follows-first : Follows p first middle
+  pub follows-rest : Follows (k middle) rest b
+
+pub follows-apart : {A B : Type 0} (p : Program A) (k : A → Program B) (faces : List ℕ) (b : B) → Follows (p >>= k) faces b → Apart p k faces b
+unfolding Follows _>>=_
+follows-apart (done a) k faces b h = record { first = []; rest = faces; middle = a; joined = refl; follows-first = refl; follows-rest = h }
+follows-apart (draw m p) k [] b h = absurd h
+follows-apart (draw m p) k (f ∷ fs) b h =
+    let w = follows-apart (p f) k fs b (h .1) in
+    record {
+      first = f ∷ w .first;
+      rest = w .rest;
+      middle = w .middle;
+      joined = ap (λ (xs : List ℕ). f ∷ xs) (w .joined);
+      follows-first = (h .0, w .follows-first);
+      follows-rest = w .follows-rest;
+    }

@@ -1,8 +1,8 @@
 -- Every course can be had: its tape decides its faces, and the run ends with its value, at the end of the tape.
-use mathlib.Core.Path.{_≡_, refl, sym, ap, ap₂, _∙_}
+use mathlib.Core.Path.{_≡_, refl, ap, _∙_}
 use mathlib.Core.Logic.{_≢_, ⊎-elim}
 use mathlib.Core.List.{List, [], _∷_, _++_, append-nil, append-assoc}
-use Prim.Native.Nat.{ℕ, suc, _+_, _<_, _≤_, _^_}
+use Prim.Native.Nat.{ℕ, suc, _^_}
 use native.Mathlib.Omega.{arith}
 use lib.ListN.{length, length-append}
 use Rattle.base.specs.CaseLaws.{eq-or-ne, ifEq-yes, ifEq-no}
@@ -11,7 +11,7 @@ use Rattle.draw.specs.Draw.{drawAt}
 use Rattle.draw.specs.DrawLaws.{draw-one}
 use Rattle.draw.specs.WordLaws.{word-decides}
 use Rattle.draw_shares.specs.Program.{Program, done, draw, Draws}
-use Rattle.draw_shares.specs.Tape.{Ran, ran, afterDraw, runAt, facesAfter, facesOn}
+use Rattle.draw_shares.specs.Tape.{ran, runAt, facesAfter, facesOn}
 use Rattle.draw_shares.specs.TapeLaws.{run-face}
 use Rattle.draw_shares.specs.Course.{Follows}
 use Rattle.draw_shares.specs.CourseTape.{Decidable, courseTape}

@@ -1,0 +1,132 @@
+-- Coins can be supplied: for every course of a history there are tapes such that no call returns 7 and the words decide this very course.
+use mathlib.Core.Path.{_≡_, refl, sym, ap, ap₂, _∙_}
+use mathlib.Core.Logic.{_≢_}
+use mathlib.Core.List.{List, [], _∷_, _++_}
+use mathlib.Core.Option.{Option, some, none}
+use Prim.Native.Nat.{ℕ, _+_, _*_, _≤_, _^_}
+use native.Mathlib.Omega.{arith}
+use lib.ListN.{length}
+use Rattle.draw_shares.specs.Program.{Program, done, draw, _>>=_, Draws}
+use Rattle.draw_shares.specs.ProgramLaws.{draws-bind, draws-done}
+use Rattle.draw_shares.specs.Tape.{ran, facesOn}
+use Rattle.draw_shares.specs.TapeLaws.{run-done}
+use Rattle.draw_shares.specs.Course.{Follows}
+use Rattle.draw_shares.specs.CourseLaws.{follows-apart}
+use Rattle.draw_shares.specs.CourseTape.{Decidable, courseTape}
+use Rattle.draw_shares.specs.CourseTapeLaws.{Reads, course-supplied}
+use Rattle.tree_rules.specs.Tree.{Shape, IsShape}
+use Rattle.tree_rules.specs.Rules.{update}
+use Rattle.tree_rules.specs.DrawBounds.{update-draws}
+use Rattle.store_layout.specs.Decode.{Contents}
+use Rattle.call_outcomes.specs.declared.Cause.{Cause}
+use Rattle.call_outcomes.specs.declared.Cause.the-variants.{TapeEnded}
+use Rattle.call_outcomes.specs.declared.Answer.the-variants.{Cleared, Changed, Refused}
+use Rattle.call_outcomes.specs.Kind.{View, SheetOf, applied, Edit, Calls, clear, change, ask, Kind, Lawful, CallFor, StoreFor}
+use Rattle.call_outcomes.specs.Causes.{Decision, refuse, accept, argumentCause, decision}
+use Rattle.call_outcomes.specs.Outcome.{edited, effect, answerOf, refused, finished, outcomeBy, outcome, callProgramBy, callProgram}
+use Rattle.call_history.specs.History.{runCalls, nextList, refusalOf, Sent, SentTo, storeAfter, lastStore, NoneEnds, facesSent, callsOf}
+use Rattle.call_history.specs.CallKeeps.{programOn, sheet-program, sheet-refusal}
+use Rattle.call_history.specs.NextSheet.{next-sheet}
+
+-- What is asked of a kind: its lists are short enough that 32-bit words decide every draw, and 7 is neither a cause of arguments nor a reply.
+pub record Suppliable (kind : Kind) : Type 0 where
+  pub few : (list : List ℕ) → kind .view .IsList list → 2 * length list + 2 ≤ 2 ^ 32
+  pub no-cause : (call : CallFor kind) (list : List ℕ) → argumentCause kind call list ≢ some TapeEnded
+  pub no-reply : (q : kind .calls .Question) (list : List ℕ) → kind .calls .reply q list ≢ Refused TapeEnded
+
+-- Tapes for the calls, from a store on: none returns 7, their words decide these faces, and the last store is this one.
+pub record Supplied (kind : Kind) (calls : List (CallFor kind)) (store : StoreFor kind) (faces : List ℕ) (v : StoreFor kind) : Type 0 where
+  pub sent : List (SentTo kind)
+  pub calls-are : callsOf sent ≡ calls
+  pub none-ends : NoneEnds kind sent store
+  pub faces-are : facesSent kind sent store ≡ faces
+  pub last-is : lastStore kind sent store ≡ v
+
+-- The same of one call.
+record Decided (kind : Kind) (call : CallFor kind) (store : StoreFor kind) (tape faces : List ℕ) (v : StoreFor kind) : Type 0 where
+  goes-on : outcome kind call tape store [] .answer ≢ Refused TapeEnded
+  faces-are : facesOn (callProgram kind call store) tape 0 ≡ faces
+  store-is : outcome kind call tape store [] .store ≡ v
+
+module _ (kind : Kind) (lawful : Lawful kind) (can : Suppliable kind) where
+  -- ---- one call
+
+  edited-draws : (edit : Edit) (list : List ℕ) (s : Shape) → kind .view .IsList list → IsShape (length list) s
+      → Draws Decidable (update (edit .change) (length list) s) → Draws Decidable (edited (kind .view) edit (record { list = list; shape = s }))
+  unfolding edited
+  edited-draws edit list s w shape d = draws-bind _ (update (edit .change) (length list) s) _ d (λ t. draws-done _ _)
+
+  effect-draws : (list : List ℕ) (s : Shape) (store : StoreFor kind) → kind .view .IsList list → IsShape (length list) s → (call : CallFor kind)
+      → argumentCause kind call list ≡ none → Draws Decidable (effect kind call (record { list = list; shape = s }) store)
+  unfolding effect argumentCause
+  effect-draws list s store w shape clear free = draws-done _ _
+  effect-draws list s store w shape (change c) free =
+      edited-draws (kind .calls .edit c list) list s w shape
+      (update-draws (2 ^ 32) (kind .calls .edit c list .change) (length list) s (lawful .calls .reach c list w free) shape (can .few list w))
+  effect-draws list s store w shape (ask q) free = draws-done _ _
+
+  program-draws : (list : List ℕ) (store : StoreFor kind) → SheetOf (kind .view) list store → (call : CallFor kind)
+      → Draws Decidable (callProgram kind call store)
+  unfolding programOn
+  program-draws list store w call =
+      rw (w .laid, sheet-program kind lawful list (w .shape) (w .is-list) (w .is-shape) call)
+      (go (argumentCause kind call list) (effect-draws list (w .shape) _ (w .is-list) (w .is-shape) call))
+    where
+      go : (found : Option Cause)
+          → (found ≡ none → Draws Decidable (effect kind call (record { list = list; shape = w .shape }) (kind .view .lay list (w .shape))))
+          → Draws Decidable (programOn kind list (w .shape) call found)
+      go none h = h refl
+      go (some cause) h = draws-done _ _
+
+  answer-goes-on : (call : CallFor kind) (list : List ℕ) (words : ℕ) → answerOf kind call list words ≢ Refused TapeEnded
+  unfolding answerOf
+  answer-goes-on clear list words e = let z : _≡_ {A = ℕ} 0 1 = cc in omega arith
+  answer-goes-on (change c) list words e = let z : _≡_ {A = ℕ} 0 1 = cc in omega arith
+  answer-goes-on (ask q) list words e = can .no-reply q list e
+
+  -- A course of a call on a sheet is decided by its tape.
+  call-supplied : (list : List ℕ) (store : StoreFor kind) → SheetOf (kind .view) list store → (call : CallFor kind) (faces : List ℕ) (v : StoreFor kind)
+      → Follows (callProgram kind call store) faces v → Decided kind call store (courseTape (callProgram kind call store) faces) faces v
+  unfolding outcome callProgram outcomeBy callProgramBy refused finished
+  call-supplied list store w call faces v follows =
+      let r = course-supplied (callProgram kind call store) faces v (program-draws list store w call) follows in
+      let refusal : refusalOf (decision kind call store) ≡ argumentCause kind call list
+      = rw (w .laid) (sheet-refusal kind lawful list (w .shape) (w .is-list) (w .is-shape) call) in
+      let g = go (decision kind call store) refusal (courseTape (callProgram kind call store) faces) r in
+      record { goes-on = g .0; faces-are = g .1; store-is = g .2 }
+    where
+      go : (d : Decision) → refusalOf d ≡ argumentCause kind call list → (tape : List ℕ) → Reads (callProgramBy kind call store d) tape 0 faces v
+          → (outcomeBy kind call tape store [] d .answer ≢ Refused TapeEnded) × (facesOn (callProgramBy kind call store d) tape 0 ≡ faces)
+          × (outcomeBy kind call tape store [] d .store ≡ v)
+      go (refuse cause) e tape r = (
+        λ h. can .no-cause call list (sym e ∙ ap some (let same : cause ≡ TapeEnded = cc in same)),
+        r .faces-are,
+        let there : ran store 0 ≡ ran v (length tape) = sym (run-done store tape 0) ∙ r .ends in
+        let same : store ≡ v = cc in same,
+      )
+      go (accept before) e tape r = (
+        λ h. answer-goes-on call (before .list) (length tape) (rw (r .ends) at h),
+        r .faces-are,
+        rw (r .ends),
+      )
+
+  -- ---- all calls
+
+  supplied : (calls : List (CallFor kind)) (list : List ℕ) (store : StoreFor kind) → SheetOf (kind .view) list store → (faces : List ℕ) (v : StoreFor kind)
+      → Follows (runCalls kind calls store) faces v → Supplied kind calls store faces v
+  unfolding runCalls callsOf NoneEnds facesSent lastStore storeAfter Follows
+  supplied [] list store w [] v follows = record { sent = []; calls-are = refl; none-ends = tt; faces-are = refl; last-is = follows }
+  supplied [] list store w (f ∷ fs) v follows = absurd follows
+  supplied (call ∷ calls) list store w faces v follows =
+      let apart = follows-apart (callProgram kind call store) (runCalls kind calls) faces v follows in
+      let tape = courseTape (callProgram kind call store) (apart .first) in
+      let one = call-supplied list store w call (apart .first) (apart .middle) (apart .follows-first) in
+      let sheet = next-sheet kind lawful list store w call tape [] (one .goes-on) in
+      let more = supplied calls (nextList kind call list) (outcome kind call tape store [] .store) sheet (apart .rest) v (rw (one .store-is) (apart .follows-rest)) in
+      record {
+        sent = record { call = call; tape = tape; output = [] } ∷ more .sent;
+        calls-are = ap (λ (cs : List (CallFor kind)). call ∷ cs) (more .calls-are);
+        none-ends = (one .goes-on, more .none-ends);
+        faces-are = ap₂ (λ (xs ys : List ℕ). xs ++ ys) (one .faces-are) (more .faces-are) ∙ apart .joined;
+        last-is = more .last-is;
+      }
