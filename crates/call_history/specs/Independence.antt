@@ -40,8 +40,8 @@ module _ (kind : Kind) (lawful : Lawful kind) where
   unfolding listAtEnd
   end-list calls = final-list calls [] (lawful .view .no-entry)
 
-  -- a store of the right lengths is cleared, whatever it holds
-  clear-program : (store : StoreFor kind) → kind .view .rightLengths store ≡ true → callProgram kind clear store ≡ sheetsOf (kind .view) []
+  -- A store of the right lengths is cleared, whatever it holds.
+  pub clear-program : (store : StoreFor kind) → kind .view .rightLengths store ≡ true → callProgram kind clear store ≡ sheetsOf (kind .view) []
   unfolding callProgram decision lookedAt byLengths byArguments argumentCause callProgramBy effect
   clear-program store right = rw right (sym (empty-sheets (kind .view)))
 

@@ -1,14 +1,15 @@
 -- Coins can be supplied: for every course of a history there are tapes such that no call returns 7 and the words decide this very course.
 use mathlib.Core.Path.{_≡_, refl, sym, ap, ap₂, _∙_}
+use mathlib.Core.Bool.{true}
 use mathlib.Core.Logic.{_≢_}
 use mathlib.Core.List.{List, [], _∷_, _++_}
 use mathlib.Core.Option.{Option, some, none}
 use Prim.Native.Nat.{ℕ, _+_, _*_, _≤_, _^_}
 use native.Mathlib.Omega.{arith}
 use lib.ListN.{length}
-use Rattle.draw_shares.specs.Program.{Program, done, draw, _>>=_, Draws}
+use Rattle.draw_shares.specs.Program.{_>>=_, Draws, Ends}
 use Rattle.draw_shares.specs.ProgramLaws.{draws-bind, draws-done}
-use Rattle.draw_shares.specs.Tape.{ran, facesOn}
+use Rattle.draw_shares.specs.Tape.{ran, runAt, facesOn}
 use Rattle.draw_shares.specs.TapeLaws.{run-done}
 use Rattle.draw_shares.specs.Course.{Follows}
 use Rattle.draw_shares.specs.CourseLaws.{follows-apart}
@@ -17,15 +18,15 @@ use Rattle.draw_shares.specs.CourseTapeLaws.{Reads, course-supplied}
 use Rattle.tree_rules.specs.Tree.{Shape, IsShape}
 use Rattle.tree_rules.specs.Rules.{update}
 use Rattle.tree_rules.specs.DrawBounds.{update-draws}
-use Rattle.store_layout.specs.Decode.{Contents}
 use Rattle.call_outcomes.specs.declared.Cause.{Cause}
 use Rattle.call_outcomes.specs.declared.Cause.the-variants.{TapeEnded}
-use Rattle.call_outcomes.specs.declared.Answer.the-variants.{Cleared, Changed, Refused}
-use Rattle.call_outcomes.specs.Kind.{View, SheetOf, applied, Edit, Calls, clear, change, ask, Kind, Lawful, CallFor, StoreFor}
-use Rattle.call_outcomes.specs.Causes.{Decision, refuse, accept, argumentCause, decision}
+use Rattle.call_outcomes.specs.declared.Answer.the-variants.{Cleared, Refused}
+use Rattle.call_outcomes.specs.Kind.{SheetOf, empty, Edit, clear, change, ask, Kind, Lawful, CallFor, StoreFor}
+use Rattle.call_outcomes.specs.Causes.{Decision, refuse, accept, byLengths, lookedAt, argumentCause, byArguments, decision}
 use Rattle.call_outcomes.specs.Outcome.{edited, effect, answerOf, refused, finished, outcomeBy, outcome, callProgramBy, callProgram}
-use Rattle.call_history.specs.History.{runCalls, nextList, refusalOf, Sent, SentTo, storeAfter, lastStore, NoneEnds, facesSent, callsOf}
-use Rattle.call_history.specs.CallKeeps.{programOn, sheet-program, sheet-refusal}
+use Rattle.call_history.specs.History.{runCalls, history, nextList, refusalOf, SentTo, clearing, storeAfter, lastStore, NoneEnds, facesSent, callsOf}
+use Rattle.call_history.specs.CallKeeps.{empty-sheets, sheets-end, programOn, sheet-program, sheet-refusal}
+use Rattle.call_history.specs.Independence.{clear-program}
 use Rattle.call_history.specs.NextSheet.{next-sheet}
 
 -- What is asked of a kind: its lists are short enough that 32-bit words decide every draw, and 7 is neither a cause of arguments nor a reply.
@@ -130,3 +131,33 @@ module _ (kind : Kind) (lawful : Lawful kind) (can : Suppliable kind) where
         faces-are = ap₂ (λ (xs ys : List ℕ). xs ++ ys) (one .faces-are) (more .faces-are) ∙ apart .joined;
         last-is = more .last-is;
       }
+
+  -- ---- a history
+
+  cleared : (store : StoreFor kind) → kind .view .rightLengths store ≡ true
+      → (outcome kind clear [] store [] .answer ≡ Cleared) × (outcome kind clear [] store [] .store ≡ kind .view .lay (empty .list) (empty .shape))
+      × (facesOn (callProgram kind clear store) [] 0 ≡ [])
+  unfolding outcome callProgram decision lookedAt byLengths byArguments argumentCause outcomeBy callProgramBy effect finished runAt answerOf facesOn
+  cleared store right = (rw right, rw right, rw right)
+
+  empty-sheet : SheetOf (kind .view) [] (kind .view .lay (empty .list) (empty .shape))
+  unfolding Ends
+  empty-sheet = rw (empty-sheets (kind .view)) at (sheets-end (kind .view) [] (lawful .view .no-entry))
+
+  -- For every course of a history there are tapes such that no call returns 7 and the words decide this course.
+  pub history-supplied : (calls : List (CallFor kind)) (store : StoreFor kind) → kind .view .rightLengths store ≡ true → (faces : List ℕ) (v : StoreFor kind)
+      → Follows (history kind calls store) faces v
+      → (sent : List (SentTo kind)) × (callsOf sent ≡ calls) × NoneEnds kind (clearing kind ∷ sent) store
+      × (facesSent kind (clearing kind ∷ sent) store ≡ faces) × (lastStore kind (clearing kind ∷ sent) store ≡ v)
+  unfolding history runCalls NoneEnds facesSent lastStore storeAfter clearing _>>=_
+  history-supplied calls store right faces v follows =
+      let c = cleared store right in
+      let start = kind .view .lay (empty .list) (empty .shape) in
+      let after : Follows (runCalls kind calls start) faces v = rw (clear-program kind lawful store right, empty-sheets (kind .view)) at follows in
+      let s = supplied calls [] start empty-sheet faces v after in (
+        s .sent,
+        s .calls-are,
+        ((λ h. let z : _≡_ {A = ℕ} 0 1 = cc in omega arith), rw (c .1) (s .none-ends)),
+        rw (c .2, c .1) (s .faces-are),
+        ap (lastStore kind (s .sent)) (c .1) ∙ s .last-is,
+      )
