@@ -7,5 +7,6 @@ pub mod Refusals
 pub mod Independence
 pub mod Shares
 pub mod Supply
+pub mod ClubSupply
 pub mod Clause
 pub mod ClubSheets
