@@ -93,3 +93,13 @@ pub question-outcome : (kind : Kind) (q : kind .calls .Question) (tape : List �
     }
 unfolding effect answerOf entriesOf finished runAt
 question-outcome kind q tape store output before decided = outcome-accepted kind (ask q) store tape output before decided
+
+-- A question keeps the store, whether it is accepted or refused.
+pub question-keeps : (kind : Kind) (q : kind .calls .Question) (tape : List ℕ) (store : StoreFor kind) (output : List ℕ)
+    → outcome kind (ask q) tape store output .store ≡ store
+unfolding outcome outcomeBy refused effect finished runAt
+question-keeps kind q tape store output = go (decision kind (ask q) store)
+  where
+    go : (d : Decision) → outcomeBy kind (ask q) tape store output d .store ≡ store
+    go (refuse cause) = refl
+    go (accept before) = refl

@@ -56,7 +56,7 @@ module _ (old : List ℕ) (words : ℕ) (room : words ≤ length old) where
 
 -- ---- the words of a tape line
 
-length-words : (line : List ℕ) (j c : ℕ) → length (lineWords line j c) ≡ c
+pub length-words : (line : List ℕ) (j c : ℕ) → length (lineWords line j c) ≡ c
 unfolding lineWords
 length-words line j zero = refl
 length-words line j (suc c) = ap suc (length-words line (suc j) c)

@@ -1,0 +1,3 @@
+-- A session of the program: the calls that its lines ask, and the words that they bring and read.
+pub mod Session
+pub mod SessionLaws

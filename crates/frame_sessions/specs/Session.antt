@@ -1,0 +1,80 @@
+-- A session of the program: lines, one after the other. Definitions only.
+use mathlib.Core.List.{List, [], _∷_, _++_}
+use Prim.Native.Nat.{ℕ, _+_, _≤_}
+use mathlib.Core.Path.{_≡_}
+use lib.ListN.{length, take, replicate}
+use Rattle.base.specs.Cases.{ifLt}
+use Rattle.call_outcomes.specs.Kind.{clear}
+use Rattle.call_outcomes.specs.Returns.{returned}
+use Rattle.call_outcomes.specs.Outcome.{outcome}
+use Rattle.call_outcomes.specs.Plain.{plain, Call, insert, delete, read, place, check}
+use Rattle.call_outcomes.specs.Clubs.{clubs}
+use Rattle.call_history.specs.History.{Sent}
+use Rattle.frame_lines.specs.declared.Frame.{Frame}
+use Rattle.frame_lines.specs.declared.Frame.the-variants.{Insert, Delete, Read, Tape, Print, Clear, Place, NoFrame}
+use Rattle.frame_lines.specs.Frame.{frameOf}
+use Rattle.frame_tape.specs.Tape.{mostWaiting, lineWords}
+use Rattle.frame_answers.specs.Step.{Kept, answerTo}
+
+-- The words that wait.
+abbrev pub waitingWords : Kept → List ℕ
+waitingWords k = take (k .waiting) (k .tape)
+
+-- The tape has room for the words that may wait, and no more wait.
+pub record TapeReady (k : Kept) : Type 0 where
+  pub room : length (k .tape) ≡ mostWaiting
+  pub few : k .waiting ≤ mostWaiting
+
+-- The call that a frame asks, as it is made then; a tape line asks none, and neither does a line that is no frame.
+unfoldable pub sentBy : Frame → Kept → List (Sent Call)
+sentBy (Insert rank entry) k = record { call = insert rank entry; tape = waitingWords k; output = [] } ∷ []
+sentBy (Delete rank) k = record { call = delete rank; tape = waitingWords k; output = [] } ∷ []
+sentBy (Read first last) k = record { call = read first last 64; tape = []; output = replicate 64 0 } ∷ []
+sentBy (Tape words) k = []
+sentBy Print k = record { call = check; tape = []; output = [] } ∷ []
+sentBy Clear k = record { call = clear; tape = []; output = [] } ∷ []
+sentBy (Place rank) k = record { call = place rank; tape = []; output = [] } ∷ []
+sentBy NoFrame k = []
+
+-- The words that a line brings: none where too many would wait.
+unfoldable pub broughtBy : Frame → List ℕ → Kept → List ℕ
+broughtBy (Insert rank entry) line k = []
+broughtBy (Delete rank) line k = []
+broughtBy (Read first last) line k = []
+broughtBy (Tape words) line k = ifLt mostWaiting (k .waiting + words) [] (lineWords line 0 words)
+broughtBy Print line k = []
+broughtBy Clear line k = []
+broughtBy (Place rank) line k = []
+broughtBy NoFrame line k = []
+
+-- The words that the call of a frame reads: so many of those that wait as it returns; none where it is refused.
+unfoldable pub readBy : Frame → Kept → List ℕ
+readBy (Insert rank entry) k = take (returned (outcome (plain clubs) (insert rank entry) (waitingWords k) (k .store) [] .answer) .second) (waitingWords k)
+readBy (Delete rank) k = take (returned (outcome (plain clubs) (delete rank) (waitingWords k) (k .store) [] .answer) .second) (waitingWords k)
+readBy (Read first last) k = []
+readBy (Tape words) k = []
+readBy Print k = []
+readBy Clear k = []
+readBy (Place rank) k = []
+readBy NoFrame k = []
+
+-- What is kept after a line, and after lines.
+abbrev pub keptBy : List ℕ → Kept → Kept
+keptBy line k = answerTo (frameOf line) line k .kept
+
+unfoldable pub keptAfter : List (List ℕ) → Kept → Kept
+keptAfter [] k = k
+keptAfter (line ∷ lines) k = keptAfter lines (keptBy line k)
+
+-- The calls of a session, and the words that its lines bring and its calls read, in order.
+unfoldable pub sentOver : List (List ℕ) → Kept → List (Sent Call)
+sentOver [] k = []
+sentOver (line ∷ lines) k = sentBy (frameOf line) k ++ sentOver lines (keptBy line k)
+
+unfoldable pub broughtOver : List (List ℕ) → Kept → List ℕ
+broughtOver [] k = []
+broughtOver (line ∷ lines) k = broughtBy (frameOf line) line k ++ broughtOver lines (keptBy line k)
+
+unfoldable pub readOver : List (List ℕ) → Kept → List ℕ
+readOver [] k = []
+readOver (line ∷ lines) k = readBy (frameOf line) k ++ readOver lines (keptBy line k)
