@@ -1,23 +1,36 @@
-/* The packed finishing sheet: six calls on a store of two slices, 4,224 slots and 256 counts.
+/* The packed finishing sheet: six calls on a store that the caller lends.
  *
- * A slice is passed as a pointer and the number of its elements. The pointer is aligned and not null, also where the number is 0. A slice
- * that a call may write overlaps no other slice of that call.
+ * On x86-64 Linux, `rt staticlib sheet_c` proves the crates and writes target/staticlib/libsheet_c.a; a program is then built by
  *
- * Each call returns the number of the cause that refuses it, or 0 where it is accepted, and puts two values at the front of `answer`:
+ *     gcc -I include -o program program.c target/staticlib/libsheet_c.a
  *
- *   clear           0, 0
- *   insert, delete  the new number of entries, the words read from the tape
- *   read            the number of entries put at the front of `output`, 0
- *   place           the place, the points
- *   check           the number of entries, 0
+ * The sheet. An entry is a 64-bit number other than 0; equal entries may stand in one sheet. The list is the entries in finishing order,
+ * N of them, at most SHEET_ENTRIES; their ranks are 0 to N - 1. The store is SHEET_SLOTS slots and SHEET_COUNTS counts. A store of zeros is
+ * the empty sheet, and sheet_clear makes any store that one.
  *
- *   1 the store has other lengths      5 insert with 1,024 entries
- *   2 the store is no sheet            6 the output is too short
- *   3 the entry is 0                   7 the tape ends before a draw is decided
- *   4 the rank is too high, or first is above last
+ * Slices. A slice is a pointer and the number of its elements. The pointer is aligned for its element type and not null, also where the
+ * number is 0. A slice that a call may write overlaps no other slice of that call.
  *
- * The first cause in this order decides. A refused call puts 0, 0 into `answer` and changes nothing else. Where `answer` has fewer than two
- * elements, a call returns 255 and changes nothing at all.
+ * What a call returns. The returned number is that of the cause that refuses the call, or SHEET_ACCEPTED. The values come back in `answer`,
+ * of which a call writes the first two elements:
+ *
+ *     clear           0, 0
+ *     insert, delete  the new N, the words read from the tape
+ *     read            the entries put into `output`, 0
+ *     place           the place, the points
+ *     check           N, 0
+ *
+ * The first cause, in the order of the numbers, decides. A refused call puts 0, 0 into `answer` and changes nothing else. With fewer than two
+ * elements of `answer`, SHEET_ANSWER_SHORT is returned before any cause is looked for, and nothing changes at all.
+ *
+ * Coins. The tape of an insert or a delete is 32-bit words, read from its first element. They are random (uniform and independent), secret,
+ * and used once: after an accepted call drop the answer[1] words that it read, and lend those behind them to the next call. SHEET_WORDS words
+ * suffice for any one call, but for a share below 2^-134 of all tapes of that length (docs/DECISIONS.md, "How many words a call reads"). On
+ * SHEET_TAPE_ENDED make the call again with the SAME words and more behind them: a call that is decided does not change with more tape. Other
+ * words in their place would favour the sheets that take few words, and the store would disclose something of its history.
+ *
+ * Not claimed: that copies of a sheet taken at two times disclose nothing when they are compared; anything where arguments are chosen after
+ * coins were seen, or where other code writes the store; that the caller's words are random; that the compiler is right.
  */
 #ifndef SHEET_H
 #define SHEET_H
@@ -28,31 +41,43 @@
 #define SHEET_SLOTS 4224
 #define SHEET_COUNTS 256
 #define SHEET_ENTRIES 1024
+#define SHEET_WORDS 72
+
+/* The numbers that the calls return. */
+#define SHEET_ACCEPTED 0
+#define SHEET_LENGTHS 1        /* the store has other lengths than SHEET_SLOTS and SHEET_COUNTS */
+#define SHEET_NOT_A_SHEET 2    /* the contents of the store are no sheet */
+#define SHEET_ENTRY_ZERO 3     /* the entry is 0 */
+#define SHEET_RANK 4           /* the rank is too high, or first is above last */
+#define SHEET_FULL 5           /* insert with SHEET_ENTRIES entries */
+#define SHEET_OUTPUT_SHORT 6   /* the output has fewer than last - first + 1 elements */
+#define SHEET_TAPE_ENDED 7     /* the tape ends before a draw is decided */
+#define SHEET_ANSWER_SHORT 255 /* `answer` has fewer than two elements */
 
 #ifdef __cplusplus
 extern "C" {
 #endif
 
-/* Makes any contents the empty sheet. */
+/* Makes any contents the empty sheet. Only SHEET_LENGTHS can refuse it. */
 size_t sheet_clear(uint64_t *slots, size_t slots_len, uint16_t *counts, size_t counts_len, uint64_t *answer, size_t answer_len);
 
-/* Puts the entry in at the rank. */
+/* Puts the entry in at a rank from 0 to N. The entries that had this rank and higher ones move up by one. */
 size_t sheet_insert(uint64_t *slots, size_t slots_len, uint16_t *counts, size_t counts_len, size_t rank, uint64_t entry,
                     const uint32_t *tape, size_t tape_len, uint64_t *answer, size_t answer_len);
 
-/* Takes the entry at the rank out. */
+/* Takes the entry at a rank from 0 to N - 1 out. The entries of higher ranks move down by one. */
 size_t sheet_delete(uint64_t *slots, size_t slots_len, uint16_t *counts, size_t counts_len, size_t rank, const uint32_t *tape,
                     size_t tape_len, uint64_t *answer, size_t answer_len);
 
-/* Copies the entries of ranks first to last, inclusive, to the front of the output. */
+/* Copies the entries of ranks first to last, inclusive, both from 0 to N - 1, to the front of the output. The rest of it stays as it was. */
 size_t sheet_read(const uint64_t *slots, size_t slots_len, const uint16_t *counts, size_t counts_len, size_t first, size_t last,
                   uint64_t *output, size_t output_len, uint64_t *answer, size_t answer_len);
 
-/* The place of the entry at the rank, and its points. */
+/* The place of the entry at a rank from 0 to N - 1, which is the rank plus 1, and its points, as many as the place. */
 size_t sheet_place(const uint64_t *slots, size_t slots_len, const uint16_t *counts, size_t counts_len, size_t rank, uint64_t *answer,
                    size_t answer_len);
 
-/* Whether the store is a sheet, and its number of entries. */
+/* Whether the store is a sheet, and N. */
 size_t sheet_check(const uint64_t *slots, size_t slots_len, const uint16_t *counts, size_t counts_len, uint64_t *answer,
                    size_t answer_len);
 

@@ -1,5 +1,6 @@
-/* A small display program: enters boats, strikes one out, and prints place, points and sail number of each;
- * then the kinds of some lines, and what frames are answered by on a cleared sheet. */
+/* A small display program: enters boats, strikes one out, and prints place, points and sail number of each; then a full sheet; then the
+ * kinds of some lines, and what frames are answered by on a cleared sheet. */
+#include "coins.h"
 #include "frames.h"
 #include "sheet.h"
 
@@ -8,17 +9,100 @@
 #include <stdlib.h>
 #include <string.h>
 
+/* How many words are drawn at once: the sheet does not depend on it. */
+#ifndef WORDS_AT_ONCE
+#define WORDS_AT_ONCE 16
+#endif
+#define TAPE_ROOM 1024
+
 static uint64_t slots[SHEET_SLOTS];
 static uint16_t counts[SHEET_COUNTS];
-static uint32_t words[FRAME_TAPE_WORDS];
+static uint64_t answer[2];
+static uint32_t frame_words[FRAME_TAPE_WORDS];
 static uint8_t answers[FRAME_OUTPUT];
+
+/* The tape: words that were drawn and that no call has read. */
+static uint32_t tape[TAPE_ROOM];
+static size_t waiting;
+static unsigned long words_drawn, words_read;
 
 /* Stops the program where a call was refused. */
 static void accepted(const char *call, size_t number) {
-    if (number != 0) {
+    if (number != SHEET_ACCEPTED) {
         fprintf(stderr, "%s: refused, cause %zu\n", call, number);
         exit(1);
     }
+}
+
+/* Puts fresh words behind those that wait. These stay: the call that they did not suffice for has to read them again. */
+static void extend_tape(void) {
+    if (TAPE_ROOM - waiting < WORDS_AT_ONCE) {
+        fprintf(stderr, "no room for more words\n");
+        exit(1);
+    }
+    fresh_words(tape + waiting, WORDS_AT_ONCE);
+    waiting += WORDS_AT_ONCE;
+    words_drawn += WORDS_AT_ONCE;
+}
+
+/* Drops the words that an accepted call has read, so that none is used again. */
+static void drop_words(size_t number) {
+    memmove(tape, tape + number, (waiting - number) * sizeof tape[0]);
+    waiting -= number;
+    words_read += number;
+}
+
+static void insert(size_t rank, uint64_t entry) {
+    size_t number;
+
+    while ((number = sheet_insert(slots, SHEET_SLOTS, counts, SHEET_COUNTS, rank, entry, tape, waiting, answer, 2)) == SHEET_TAPE_ENDED)
+        extend_tape();
+    accepted("insert", number);
+    drop_words((size_t)answer[1]);
+}
+
+static void delete(size_t rank) {
+    size_t number;
+
+    while ((number = sheet_delete(slots, SHEET_SLOTS, counts, SHEET_COUNTS, rank, tape, waiting, answer, 2)) == SHEET_TAPE_ENDED)
+        extend_tape();
+    accepted("delete", number);
+    drop_words((size_t)answer[1]);
+}
+
+/* Prints the number of entries and a line for each: place, points and sail number. */
+static void display(void) {
+    uint64_t output[SHEET_ENTRIES];
+    size_t i, n;
+
+    accepted("check", sheet_check(slots, SHEET_SLOTS, counts, SHEET_COUNTS, answer, 2));
+    n = (size_t)answer[0];
+    printf("%zu boats\n", n);
+    accepted("read", sheet_read(slots, SHEET_SLOTS, counts, SHEET_COUNTS, 0, n - 1, output, SHEET_ENTRIES, answer, 2));
+    for (i = 0; i < n; i++) {
+        accepted("place", sheet_place(slots, SHEET_SLOTS, counts, SHEET_COUNTS, i, answer, 2));
+        printf("%" PRIu64 " %" PRIu64 " %" PRIu64 "\n", answer[0], answer[1], output[i]);
+    }
+}
+
+/* Enters boats in front until the sheet is full, strikes the first half out, and looks at those that stay. */
+static void fill(void) {
+    uint64_t output[SHEET_ENTRIES / 2];
+    size_t i;
+
+    accepted("clear", sheet_clear(slots, SHEET_SLOTS, counts, SHEET_COUNTS, answer, 2));
+    for (i = 0; i < SHEET_ENTRIES; i++)
+        insert(0, i + 1);
+    printf("one boat too many: %zu\n", sheet_insert(slots, SHEET_SLOTS, counts, SHEET_COUNTS, 0, 5, tape, waiting, answer, 2));
+    for (i = 0; i < SHEET_ENTRIES / 2; i++)
+        delete(0);
+    accepted("read", sheet_read(slots, SHEET_SLOTS, counts, SHEET_COUNTS, 0, SHEET_ENTRIES / 2 - 1, output, SHEET_ENTRIES / 2, answer, 2));
+    for (i = 0; i < SHEET_ENTRIES / 2; i++)
+        if (output[i] != SHEET_ENTRIES / 2 - i) {
+            printf("another boat has rank %zu\n", i);
+            return;
+        }
+    printf("the last %" PRIu64 " boats stay\n", answer[0]);
 }
 
 int main(void) {
@@ -26,37 +110,31 @@ int main(void) {
     static const char *const frames[] = {"010000000000000000000A", "0400000001", "010001000000000000000B", "05"};
     static const char *const lines[] = {"010000000000000000000A", "0400000001", "05", "0a", ""};
     const size_t n = sizeof boats / sizeof boats[0];
-    uint32_t tape[16];
-    uint64_t answer[2], output[5], waiting[1] = {0};
+    uint64_t frame_waiting[1] = {0};
     size_t i, bytes;
-
-    for (i = 0; i < sizeof tape / sizeof tape[0]; i++)
-        tape[i] = (uint32_t)(2654435761u * (i + 1));
 
     accepted("clear", sheet_clear(slots, SHEET_SLOTS, counts, SHEET_COUNTS, answer, 2));
     for (i = 0; i < n; i++)
-        accepted("insert", sheet_insert(slots, SHEET_SLOTS, counts, SHEET_COUNTS, i, boats[i], tape, 16, answer, 2));
-    accepted("delete", sheet_delete(slots, SHEET_SLOTS, counts, SHEET_COUNTS, 2, tape, 16, answer, 2));
-
-    accepted("check", sheet_check(slots, SHEET_SLOTS, counts, SHEET_COUNTS, answer, 2));
-    printf("%" PRIu64 " boats\n", answer[0]);
-    accepted("read", sheet_read(slots, SHEET_SLOTS, counts, SHEET_COUNTS, 0, (size_t)answer[0] - 1, output, 5, answer, 2));
-    for (i = 0; i < n - 1; i++) {
-        accepted("place", sheet_place(slots, SHEET_SLOTS, counts, SHEET_COUNTS, i, answer, 2));
-        printf("%" PRIu64 " %" PRIu64 " %" PRIu64 "\n", answer[0], answer[1], output[i]);
-    }
+        insert(i, boats[i]);
+    delete(2);
+    display();
 
     printf("rank too high: %zu\n", sheet_place(slots, SHEET_SLOTS, counts, SHEET_COUNTS, n, answer, 2));
     printf("no tape: %zu\n", sheet_insert(slots, SHEET_SLOTS, counts, SHEET_COUNTS, 0, 5, tape, 0, answer, 2));
     printf("answer too short: %zu\n", sheet_check(slots, SHEET_SLOTS, counts, SHEET_COUNTS, answer, 1));
+
+    fill();
+    if (words_drawn != words_read + waiting)
+        printf("a word was lost, or read by two calls\n");
+    fprintf(stderr, "size parameter %u, %lu words read\n", counts[0], words_read);
 
     for (i = 0; i < sizeof lines / sizeof lines[0]; i++)
         printf("%s: %u\n", lines[i], frame_kind((const uint8_t *)lines[i], strlen(lines[i])));
 
     accepted("clear", sheet_clear(slots, SHEET_SLOTS, counts, SHEET_COUNTS, answer, 2));
     for (i = 0; i < sizeof frames / sizeof frames[0]; i++) {
-        bytes = frame_step((const uint8_t *)frames[i], strlen(frames[i]), slots, SHEET_SLOTS, counts, SHEET_COUNTS, words, FRAME_TAPE_WORDS,
-                           waiting, 1, answers, FRAME_OUTPUT);
+        bytes = frame_step((const uint8_t *)frames[i], strlen(frames[i]), slots, SHEET_SLOTS, counts, SHEET_COUNTS, frame_words,
+                           FRAME_TAPE_WORDS, frame_waiting, 1, answers, FRAME_OUTPUT);
         fwrite(answers, 1, bytes, stdout);
     }
     return 0;

@@ -18,7 +18,7 @@ insert-before : compare (Insert 2) 10 3 ≡ Unchanged
 unfolding compare leaving entering firstOfEach keepIf someOf isAmong isMember window ranksFrom windowStart ceilDiv countAfter rankAfter ifEq ifLt
 insert-before = refl
 
--- the candidate of rank 4 goes out of 10 entries; ranks 4 to 6 of the 9 that are left are 3, 5, 6 before
+-- the candidate of rank 4 goes out of 10 entries; ranks 3 to 5 of the 9 that are left had the ranks 3, 5, 6 before
 delete-candidate : compare (Delete 4) 10 3 ≡ Swapped 4 5
 unfolding compare leaving entering firstOfEach keepIf someOf isAmong isMember window ranksFrom windowStart ceilDiv countAfter rankAfter ifEq ifLt
 delete-candidate = refl

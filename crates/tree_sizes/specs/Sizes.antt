@@ -5,7 +5,8 @@ use Prim.Native.Nat.{ℕ, zero, suc, _+_, _-_, _*_, _/_, _^_, _≤_, _<_}
 use lib.Dec.{leb}
 use Rattle.base.specs.Cases.{ifLe}
 
--- How often x can be doubled without passing m: the largest k with x * 2 ^ k ≤ m, but no more than `fuel`.
+-- How often x can be doubled without passing m, at most `fuel` times: the largest k up to `fuel` with x * 2 ^ k ≤ m, and 0 where x is
+-- above m already.
 unfoldable pub doublings : ℕ → ℕ → ℕ → ℕ
 doublings zero x m = 0
 doublings (suc fuel) x m = elim (leb (2 * x) m) [ true ↦ suc (doublings fuel (2 * x) m) | false ↦ 0 ]
