@@ -1,0 +1,129 @@
+-- The reviewer's page: what is claimed of the clubs' sheets, a sentence and a theorem each. The definitions that the statements name stand in
+-- call_outcomes (Kind, Causes, Outcome, Plain, Clubs), call_history (History) and frame_sessions (Session).
+use mathlib.Core.Path.{_≡_}
+use mathlib.Core.Bool.{true}
+use mathlib.Core.Logic.{_≢_, _↔_}
+use mathlib.Core.List.{List, [], _∷_, _++_}
+use mathlib.Core.Option.{some}
+use Prim.Native.Nat.{ℕ}
+use lib.ListN.{length, replicate}
+use Rattle.draw_shares.specs.Fraction.{_≐_, whole, unit}
+use Rattle.draw_shares.specs.Course.{Follows, share}
+use Rattle.tree_rules.specs.declared.Change.{Change}
+use Rattle.tree_rules.specs.Tree.{Shape, IsShape}
+use Rattle.tree_rules.specs.ChangeList.{changeList}
+use Rattle.tree_canonical.specs.ShapeShare.{shapeProduct}
+use Rattle.store_layout.specs.Layout.{Store, layOut}
+use Rattle.call_outcomes.specs.declared.Cause.{Cause}
+use Rattle.call_outcomes.specs.declared.Cause.the-variants.{NotASheet, TapeEnded}
+use Rattle.call_outcomes.specs.declared.Answer.the-variants.{Checked, Changed, Refused}
+use Rattle.call_outcomes.specs.Causes.{argumentCause}
+use Rattle.call_outcomes.specs.Outcome.{outcome}
+use Rattle.call_outcomes.specs.Plain.{RightLengths, equalStores, plainView, plain, Call, delete, check, changing, storeOf}
+use Rattle.call_outcomes.specs.PlainLaws.{lengths-right}
+use Rattle.call_outcomes.specs.Clubs.{clubs}
+use Rattle.call_outcomes.specs.ClubsLaws.{clubs-lawful}
+use Rattle.call_outcomes.specs.LongerTapeLaws as longer
+use Rattle.call_history.specs.History.{history, listAtEnd, SameTable, Sent, clearing, lastStore, NoneEnds, facesSent, callsOf}
+use Rattle.call_history.specs.Shares as shares
+use Rattle.call_history.specs.Refusals as refusals
+use Rattle.call_history.specs.Supply.{history-supplied}
+use Rattle.call_history.specs.ClubSupply.{clubs-suppliable}
+use Rattle.call_history.specs.Clause as clause
+use Rattle.call_history.specs.ClubSheets as sheets
+use Rattle.call_history.specs.ClubSheets.{ClubSheet}
+use Rattle.frame_answers.specs.Step.{Kept}
+use Rattle.frame_sessions.specs.Session.{waitingWords, TapeReady, keptAfter, sentOver, broughtOver, readOver}
+use Rattle.frame_sessions.specs.SessionLaws as session
+
+-- ---- histories and shares
+
+-- For every two histories, on stores that held anything at all before, every store has the same share in both exactly when both end with
+-- the same list.
+pub equal-tables : (calls calls′ : List Call) (store store′ : Store) → RightLengths clubs store → RightLengths clubs store′
+    → SameTable (plainView clubs) (history (plain clubs) calls store) (history (plain clubs) calls′ store′)
+    ↔ (listAtEnd (plain clubs) calls ≡ listAtEnd (plain clubs) calls′)
+equal-tables = clause.clause
+
+-- The shares of a history sum to 1.
+pub shares-sum : (calls : List Call) (store : Store) → RightLengths clubs store → share (λ _. true) (history (plain clubs) calls store) ≐ whole 1
+shares-sum calls store right = shares.shares-sum (plain clubs) clubs-lawful calls store (lengths-right clubs store right)
+
+-- A store has a share above 0 exactly when it is a sheet of the list at the end.
+pub positive-shares : (calls : List Call) (store : Store) → RightLengths clubs store → (v : Store)
+    → (¬ (share (equalStores v) (history (plain clubs) calls store) ≐ whole 0)) ↔ ClubSheet (listAtEnd (plain clubs) calls) v
+positive-shares calls store right = shares.positive-sheets (plain clubs) clubs-lawful calls store (lengths-right clubs store right)
+
+-- Each sheet of the list at the end has the share 1 / N times 1 / c for each range above the leaves.
+pub sheet-shares : (calls : List Call) (store : Store) → RightLengths clubs store → (s : Shape) → IsShape (length (listAtEnd (plain clubs) calls)) s
+    → share (equalStores (layOut clubs (listAtEnd (plain clubs) calls) s)) (history (plain clubs) calls store)
+    ≐ unit (shapeProduct (length (listAtEnd (plain clubs) calls)) s)
+sheet-shares = clause.sheet-shares
+
+-- ---- words
+
+-- Whatever words the tapes of the calls hold, if no call returns 7, the calls leave the store with which the course ends whose faces those
+-- words decide.
+pub words-decide : (sent : List (Sent Call)) (store : Store) → NoneEnds (plain clubs) (clearing (plain clubs) ∷ sent) store → (final : Store)
+    → Follows (history (plain clubs) (callsOf sent) store) (facesSent (plain clubs) (clearing (plain clubs) ∷ sent) store) final
+    ↔ (final ≡ lastStore (plain clubs) (clearing (plain clubs) ∷ sent) store)
+words-decide = clause.words
+
+-- For every course of a history there are tapes such that no call returns 7 and the words decide this very course.
+pub coins-supplied : (calls : List Call) (store : Store) → RightLengths clubs store → (faces : List ℕ) (v : Store)
+    → Follows (history (plain clubs) calls store) faces v
+    → (sent : List (Sent Call)) × (callsOf sent ≡ calls) × NoneEnds (plain clubs) (clearing (plain clubs) ∷ sent) store
+    × (facesSent (plain clubs) (clearing (plain clubs) ∷ sent) store ≡ faces) × (lastStore (plain clubs) (clearing (plain clubs) ∷ sent) store ≡ v)
+coins-supplied calls store right = history-supplied (plain clubs) clubs-lawful clubs-suppliable calls store (lengths-right clubs store right)
+
+-- A call that is not refused by 7 has the same outcome on every longer tape that begins with the same words.
+pub more-tape : (call : Call) (tape more : List ℕ) (store : Store) (output : List ℕ)
+    → outcome (plain clubs) call tape store output .answer ≢ Refused TapeEnded
+    → outcome (plain clubs) call (tape ++ more) store output ≡ outcome (plain clubs) call tape store output
+more-tape = longer.more-tape (plain clubs)
+
+-- Where no call returns 7, whatever the words, the last store is a sheet of the list at the end.
+pub last-sheet : (sent : List (Sent Call)) (store : Store) → RightLengths clubs store → NoneEnds (plain clubs) (clearing (plain clubs) ∷ sent) store
+    → ClubSheet (listAtEnd (plain clubs) (callsOf sent)) (lastStore (plain clubs) (clearing (plain clubs) ∷ sent) store)
+last-sheet sent store right = shares.last-sheet (plain clubs) clubs-lawful sent store (lengths-right clubs store right)
+
+-- A call on a sheet that a cause of its arguments refuses answers with this cause, whatever the words and the shape.
+pub refused-by : (list : List ℕ) (store : Store) → ClubSheet list store → (call : Call) (cause : Cause)
+    → argumentCause (plain clubs) call list ≡ some cause → (tape output : List ℕ)
+    → outcome (plain clubs) call tape store output .answer ≡ Refused cause
+refused-by = refusals.refused-by (plain clubs) clubs-lawful
+
+-- ---- single calls
+
+-- A check of a sheet answers with the length of its list; a check of any other store of the right lengths is refused by cause 2.
+pub check-sheet : (list : List ℕ) (store : Store) → ClubSheet list store → (tape output : List ℕ)
+    → outcome (plain clubs) check tape store output .answer ≡ Checked (length list)
+check-sheet = sheets.check-sheet
+
+pub check-other : (store : Store) → RightLengths clubs store → ((list : List ℕ) → ClubSheet list store → ⊥) → (tape output : List ℕ)
+    → outcome (plain clubs) check tape store output .answer ≡ Refused NotASheet
+check-other = sheets.check-other
+
+-- An accepted insert or delete on any sheet leaves a sheet of the changed list.
+pub changed-sheet : (list : List ℕ) (store : Store) → ClubSheet list store → (by : Change) (entry : ℕ) (tape output : List ℕ) (n words : ℕ)
+    → outcome (plain clubs) (changing by entry) tape store output .answer ≡ Changed n words
+    → ClubSheet (changeList by entry list) (outcome (plain clubs) (changing by entry) tape store output .store)
+changed-sheet = sheets.changed-sheet
+
+-- A delete of the last entry leaves zeros.
+pub last-deleted : (e : ℕ) (store : Store) → ClubSheet (e ∷ []) store → (tape output : List ℕ) (n words : ℕ)
+    → outcome (plain clubs) (delete 0) tape store output .answer ≡ Changed n words
+    → outcome (plain clubs) (delete 0) tape store output .store ≡ storeOf (replicate (clubs .slots) 0) (replicate (clubs .counts) 0)
+last-deleted = sheets.last-deleted
+
+-- ---- the program
+
+-- The store after the lines is the last store of the calls that their frames ask, each with the tape waiting then.
+pub session-store : (lines : List (List ℕ)) (k : Kept) → keptAfter lines k .store ≡ lastStore (plain clubs) (sentOver lines k) (k .store)
+session-store = session.session-store
+
+-- The words that the calls read, and then those that still wait, are those that waited and then those that the lines brought: each is read
+-- at most once, in order.
+pub words-once : (lines : List (List ℕ)) (k : Kept) → TapeReady k
+    → readOver lines k ++ waitingWords (keptAfter lines k) ≡ waitingWords k ++ broughtOver lines k
+words-once = session.words-once
