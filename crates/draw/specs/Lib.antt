@@ -3,5 +3,6 @@ pub mod Draw
 pub mod DrawLaws
 pub mod LongerTapeLaws
 pub mod Runs
+pub mod WordsReadLaws
 pub mod Fair
 pub mod Examples
