@@ -3,6 +3,7 @@ pub mod Draw
 pub mod DrawLaws
 pub mod LongerTapeLaws
 pub mod Runs
+pub mod RunsLaws
 pub mod WordsReadLaws
 pub mod Fair
 pub mod Examples

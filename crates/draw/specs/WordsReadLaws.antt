@@ -59,7 +59,7 @@ scan-behind limit m face (word ∷ words) more at place e =
     rw (scan-pass limit m word (words ++ more) at h, scan-pass limit m word words at h) (scan-behind limit m face words more (suc at) place (omega arith)))
     (lt-or-ge word limit)
 
-draw-behind : (W m face : ℕ) (words more : List ℕ) → gives face (length words) (drawFrom W m (words ++ more) 0) ≡ gives face (length words) (drawFrom W m words 0)
+pub draw-behind : (W m face : ℕ) (words more : List ℕ) → gives face (length words) (drawFrom W m (words ++ more) 0) ≡ gives face (length words) (drawFrom W m words 0)
 draw-behind W m face words more =
     ⊎-elim
     (λ (e : m ≡ 1). rw (e, draw-one W (words ++ more) 0, draw-one W words 0))
@@ -86,5 +86,5 @@ pub draw-reads : (W m face : ℕ) (before words more : List ℕ)
     → gives face (length before + length words) (drawFrom W m (before ++ (words ++ more)) (length before)) ≡ gives face (length words) (drawFrom W m words 0)
 draw-reads W m face before words more =
     let moves : drawFrom W m (before ++ (words ++ more)) (length before) ≡ moved (length before) (drawFrom W m (words ++ more) 0) =
-        rw add-zero at (draw-moved W m before (words ++ more) 0) in
+    rw add-zero at (draw-moved W m before (words ++ more) 0) in
     rw moves (gives-moved (length before) face (length words) (drawFrom W m (words ++ more) 0) ∙ draw-behind W m face words more)

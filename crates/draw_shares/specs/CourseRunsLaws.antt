@@ -1,0 +1,71 @@
+-- The runs of words that decide a course are a product over its draws, and as many for every course of draws among the same numbers.
+use mathlib.Core.Path.{_≡_, refl, ap, ap₂, sym, _∙_}
+use mathlib.Core.Bool.{Bool, true, false, _&&_}
+use mathlib.Core.List.{List, [], _∷_, _++_, map}
+use Prim.Native.Nat.{ℕ, zero, suc, _+_, _*_, _<_}
+use native.Mathlib.Omega.{arith}
+use native.Mathlib.Nat.{zero-add, add-zero, add-assoc}
+use lib.ListN.{length}
+use Rattle.base.specs.Lists.{Every, total}
+use Rattle.draw.specs.Draw.{drawFrom, moved}
+use Rattle.draw.specs.Runs.{one, runs, gives, faceRuns, drawRuns}
+use Rattle.draw.specs.RunsLaws.{runs-none, runs-times}
+use Rattle.draw.specs.WordsReadLaws.{draw-moved, gives-moved, draw-behind}
+use Rattle.draw.specs.Fair.{face-runs-all}
+use Rattle.draw_shares.specs.Program.{Program, done, draw}
+use Rattle.draw_shares.specs.Course.{Follows}
+use Rattle.draw_shares.specs.CourseRuns.{decided, decidingRuns, courseRuns, amongOf, amongRuns}
+
+module _ {A : Type 0} (W : ℕ) where
+  -- Words before the place decide nothing.
+  pub decided-moved : (p : Program A) (faces numbers before words : List ℕ) (at : ℕ)
+      → decided W p faces numbers (before ++ words) (length before + at) ≡ decided W p faces numbers words at
+  unfolding decided
+  decided-moved (done a) [] [] before words at = refl
+  decided-moved (done a) [] (k ∷ ks) before words at = refl
+  decided-moved (done a) (f ∷ fs) ks before words at = refl
+  decided-moved (draw m p) [] ks before words at = refl
+  decided-moved (draw m p) (f ∷ fs) [] before words at = refl
+  decided-moved (draw m p) (f ∷ fs) (k ∷ ks) before words at =
+      rw (add-assoc (length before) at k, draw-moved W m before words at)
+      (ap₂ _&&_ (gives-moved (length before) f (at + k) (drawFrom W m words at)) (decided-moved (p f) fs ks before words (at + k)))
+
+  -- The runs of words that decide a course with these numbers are as many as the product over its draws.
+  pub course-runs : (p : Program A) (faces numbers : List ℕ) → decidingRuns W p faces numbers ≡ courseRuns W p faces numbers
+  unfolding decidingRuns decided courseRuns total faceRuns runs one
+  course-runs (done a) [] [] = refl
+  course-runs (done a) [] (k ∷ ks) = runs-none W (k + total ks)
+  course-runs (done a) (f ∷ fs) ks = runs-none W (total ks)
+  course-runs (draw m p) [] ks = runs-none W (total ks)
+  course-runs (draw m p) (f ∷ fs) [] = runs-none W 0
+  course-runs (draw m p) (f ∷ fs) (k ∷ ks) =
+      runs-times W k (total ks) _ (λ words. gives f k (drawFrom W m words 0)) (λ more. decided W (p f) fs ks more 0) parts
+      ∙ ap (λ (n : ℕ). faceRuns W m f k * n) (course-runs (p f) fs ks)
+    where
+      parts : (words more : List ℕ) → length words ≡ k
+          → (gives f (0 + k) (drawFrom W m (words ++ more) 0) && decided W (p f) fs ks (words ++ more) (0 + k))
+          ≡ (gives f k (drawFrom W m words 0) && decided W (p f) fs ks more 0)
+      parts words more e =
+          let later : decided W (p f) fs ks (words ++ more) (length words) ≡ decided W (p f) fs ks more 0 =
+          rw add-zero at (decided-moved (p f) fs ks words more 0) in
+          rw (zero-add k, ← e) (ap₂ _&&_ (draw-behind W m f words more) later)
+
+  -- The product in numbers, by the numbers drawn among alone.
+  pub course-value : (p : Program A) (faces numbers : List ℕ) (a : A) → Follows p faces a
+      → courseRuns W p faces numbers ≡ amongRuns W (amongOf p faces) numbers
+  unfolding courseRuns amongRuns amongOf Follows
+  course-value (done b) [] [] a e = refl
+  course-value (done b) [] (k ∷ ks) a e = refl
+  course-value (done b) (f ∷ fs) ks a e = absurd e
+  course-value (draw m p) [] ks a e = absurd e
+  course-value (draw m p) (f ∷ fs) [] a e = refl
+  course-value (draw m p) (f ∷ fs) (k ∷ ks) a e = ap₂ _*_ (face-runs-all W m f k (e .0)) (course-value (p f) fs ks a (e .1))
+
+-- Two courses of draws among the same numbers have equally many runs of words, for the same numbers of words: whatever the faces and the programs.
+pub course-fair : {A B : Type 0} (W : ℕ) (p : Program A) (q : Program B) (faces faces′ numbers : List ℕ) (a : A) (b : B)
+    → Follows p faces a → Follows q faces′ b → amongOf p faces ≡ amongOf q faces′
+    → decidingRuns W p faces numbers ≡ decidingRuns W q faces′ numbers
+course-fair W p q faces faces′ numbers a b e h same =
+    course-runs W p faces numbers ∙ course-value W p faces numbers a e
+    ∙ ap (λ (ms : List ℕ). amongRuns W ms numbers) same
+    ∙ sym (course-runs W q faces′ numbers ∙ course-value W q faces′ numbers b h)
