@@ -1,15 +1,15 @@
 -- Every face has equally many runs of words, for each m and each number of words read.
-use mathlib.Core.Path.{_≡_, refl, ap, ap₂, sym, _∙_, fun-ext}
+use mathlib.Core.Path.{_≡_, refl, ap, ap₂, sym, _∙_}
 use mathlib.Core.Bool.{Bool, false, and-true, and-false}
 use mathlib.Core.Logic.{_≢_, ⊎-elim}
 use mathlib.Core.List.{List, [], _∷_}
 use Prim.Native.Nat.{ℕ, zero, suc, _+_, _*_, _/_, _%_, _<_, _≤_, _^_}
 use native.Mathlib.Omega.{arith}
-use native.Mathlib.Nat.{zero-add, add-zero, add-suc, mul-zero, zero-mul, suc-mul, mul-comm, mul-assoc, div-add-mod, pow-suc, pow-zero, eq-or-lt-of-le}
+use native.Mathlib.Nat.{zero-add, zero-mul, suc-mul, mul-comm, mul-assoc, div-add-mod, pow-suc, pow-zero, eq-or-lt-of-le}
 use borrow.Author.Tests.{eq-eqb, ne-eqb}
 use lib.Arith.{digits-mod}
 use lib.Dec.{eqb, eqb·suc-suc, eqb·zero-suc}
-use Rattle.base.specs.CaseLaws.{eq-or-ne, by-eq}
+use Rattle.base.specs.CaseLaws.{by-eq}
 use Rattle.draw.specs.Draw.{scan}
 use Rattle.draw.specs.DrawLaws.{scan-nil, scan-take, scan-pass, draw-one, draw-many}
 use Rattle.draw.specs.Runs.{sumBelow, one, runs, gives, faceRuns, drawRuns}

@@ -1,9 +1,11 @@
 -- How many runs of words decide a course of a program (document 01, "Coins" and "Histories and shares"). Definitions only.
 use mathlib.Core.Bool.{Bool, true, false, _&&_}
 use mathlib.Core.List.{List, [], _∷_}
-use Prim.Native.Nat.{ℕ, _+_, _*_}
+use Prim.Native.Nat.{ℕ, _+_, _-_, _*_}
 use Rattle.base.specs.Lists.{total}
-use Rattle.draw.specs.Draw.{drawFrom}
+use Rattle.draw.specs.declared.Drawn.{Drawn}
+use Rattle.draw.specs.declared.Drawn.the-variants.{Face, Ended}
+use Rattle.draw.specs.Draw.{drawFrom, drawAt}
 use Rattle.draw.specs.Runs.{runs, gives, faceRuns, drawRuns}
 use Rattle.draw_shares.specs.Program.{Program, done, draw}
 
@@ -43,3 +45,12 @@ amongRuns W [] [] = 1
 amongRuns W [] (k ∷ numbers) = 0
 amongRuns W (m ∷ ms) [] = 0
 amongRuns W (m ∷ ms) (k ∷ numbers) = drawRuns W m k * amongRuns W ms numbers
+
+unfoldable pub numbersAfter : ℕ → Drawn → (ℕ → ℕ → List ℕ) → List ℕ
+numbersAfter at (Face face next) k = (next - at) ∷ k face next
+numbersAfter at Ended k = []
+
+-- The numbers of words of the tape that the draws of a program read, in their order.
+unfoldable pub numbersOn : {A : Type 0} → Program A → List ℕ → ℕ → List ℕ
+numbersOn (done a) tape at = []
+numbersOn (draw m p) tape at = numbersAfter at (drawAt m tape at) (λ face next. numbersOn (p face) tape next)

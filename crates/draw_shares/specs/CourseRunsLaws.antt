@@ -1,19 +1,20 @@
 -- The runs of words that decide a course are a product over its draws, and as many for every course of draws among the same numbers.
 use mathlib.Core.Path.{_≡_, refl, ap, ap₂, sym, _∙_}
-use mathlib.Core.Bool.{Bool, true, false, _&&_}
+use mathlib.Core.Bool.{_&&_}
 use mathlib.Core.List.{List, [], _∷_, _++_, map}
-use Prim.Native.Nat.{ℕ, zero, suc, _+_, _*_, _<_}
-use native.Mathlib.Omega.{arith}
+use Prim.Native.Nat.{ℕ, _+_, _*_}
 use native.Mathlib.Nat.{zero-add, add-zero, add-assoc}
 use lib.ListN.{length}
 use Rattle.base.specs.Lists.{Every, total}
-use Rattle.draw.specs.Draw.{drawFrom, moved}
-use Rattle.draw.specs.Runs.{one, runs, gives, faceRuns, drawRuns}
+use Rattle.base.specs.ListLaws.{every-map}
+use Rattle.draw.specs.Draw.{drawFrom}
+use Rattle.draw.specs.Runs.{one, runs, gives, faceRuns}
 use Rattle.draw.specs.RunsLaws.{runs-none, runs-times}
 use Rattle.draw.specs.WordsReadLaws.{draw-moved, gives-moved, draw-behind}
 use Rattle.draw.specs.Fair.{face-runs-all}
 use Rattle.draw_shares.specs.Program.{Program, done, draw}
-use Rattle.draw_shares.specs.Course.{Follows}
+use Rattle.draw_shares.specs.Course.{Follows, Course, before, courses}
+use Rattle.draw_shares.specs.CourseLaws.{every-concat, courses-follow}
 use Rattle.draw_shares.specs.CourseRuns.{decided, decidingRuns, courseRuns, amongOf, amongRuns}
 
 module _ {A : Type 0} (W : ℕ) where
@@ -69,3 +70,27 @@ course-fair W p q faces faces′ numbers a b e h same =
     course-runs W p faces numbers ∙ course-value W p faces numbers a e
     ∙ ap (λ (ms : List ℕ). amongRuns W ms numbers) same
     ∙ sym (course-runs W q faces′ numbers ∙ course-value W q faces′ numbers b h)
+
+module _ {A : Type 0} where
+  -- The numbers drawn among of each listed course are those along its faces.
+  pub among-listed : (p : Program A) → Every (λ c. amongOf p (c .faces) ≡ c .among) (courses p)
+  unfolding courses amongOf Every before
+  among-listed (done a) = (refl, tt)
+  among-listed (draw m p) =
+      every-concat _ m (λ f. map (before m f) (courses (p f)))
+      (λ f _.
+      every-map (λ c. amongOf (p f) (c .faces) ≡ c .among) (λ c. amongOf (draw m p) (c .faces) ≡ c .among) (before m f)
+      (λ c e. ap (λ (ms : List ℕ). m ∷ ms) e) (courses (p f)) (among-listed (p f)))
+
+every-both : {B : Type 0} (P Q R : B → Type 0) → ((x : B) → P x → Q x → R x) → (xs : List B) → Every P xs → Every Q xs → Every R xs
+unfolding Every
+every-both P Q R h [] p q = tt
+every-both P Q R h (x ∷ xs) p q = (h x (p .0) (q .0), every-both P Q R h xs (p .1) (q .1))
+
+-- The runs of words of each listed course, by the numbers that it draws among: whatever its faces.
+pub runs-listed : {A : Type 0} (W : ℕ) (p : Program A) (numbers : List ℕ)
+    → Every (λ c. decidingRuns W p (c .faces) numbers ≡ amongRuns W (c .among) numbers) (courses p)
+runs-listed {A} W p numbers =
+    every-both (λ (c : Course A). Follows p (c .faces) (c .end)) (λ (c : Course A). amongOf p (c .faces) ≡ c .among) _
+    (λ c e same. course-runs W p (c .faces) numbers ∙ course-value W p (c .faces) numbers (c .end) e ∙ ap (λ (ms : List ℕ). amongRuns W ms numbers) same)
+    (courses p) (courses-follow p) (among-listed p)

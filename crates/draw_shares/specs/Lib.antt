@@ -15,6 +15,7 @@ pub mod SameLaws
 pub mod ShareLaws
 pub mod CourseLaws
 pub mod CourseRunsLaws
+pub mod DecidedLaws
 pub mod Reservoir
 pub mod Apart
 pub mod Examples
