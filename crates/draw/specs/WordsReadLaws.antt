@@ -8,8 +8,8 @@ use native.Mathlib.Omega.{arith}
 use native.Mathlib.Nat.{add-suc, add-zero}
 use borrow.Author.Tests.{eq-eqb, ne-eqb}
 use lib.Dec.{eqb}
-use lib.ListN.{length, drop}
-use lib.Seq.{drop-append-add}
+use lib.ListN.{length, drop, length-drop}
+use lib.Seq.{drop-append-le, drop-append-add}
 use Rattle.base.specs.CaseLaws.{eq-or-ne, lt-or-ge}
 use Rattle.draw.specs.declared.Drawn.{Drawn}
 use Rattle.draw.specs.declared.Drawn.the-variants.{Face, Ended}
@@ -49,22 +49,26 @@ scan-past limit m face place (word ∷ words) at l =
     (λ (h : limit ≤ word). rw (scan-pass limit m word words at h) (scan-past limit m face place words (suc at) (omega arith)))
     (lt-or-ge word limit)
 
-scan-behind : (limit m face : ℕ) (words more : List ℕ) (at place : ℕ) → place ≡ at + length words
+scan-behind : (limit m face place : ℕ) (words more : List ℕ) (at : ℕ) → place ≤ at + length words
     → gives face place (scan limit m (words ++ more) at) ≡ gives face place (scan limit m words at)
-scan-behind limit m face [] more at place e = scan-past limit m face place more at (omega arith) ∙ sym (scan-past limit m face place [] at (omega arith))
-scan-behind limit m face (word ∷ words) more at place e =
+scan-behind limit m face place [] more at l =
+    scan-past limit m face place more at (omega arith) ∙ sym (scan-past limit m face place [] at (omega arith))
+scan-behind limit m face place (word ∷ words) more at l =
     ⊎-elim
     (λ (h : word < limit). rw (scan-take limit m word (words ++ more) at h, scan-take limit m word words at h))
     (λ (h : limit ≤ word).
-    rw (scan-pass limit m word (words ++ more) at h, scan-pass limit m word words at h) (scan-behind limit m face words more (suc at) place (omega arith)))
+    rw (scan-pass limit m word (words ++ more) at h, scan-pass limit m word words at h) (scan-behind limit m face place words more (suc at) (omega arith)))
     (lt-or-ge word limit)
 
-pub draw-behind : (W m face : ℕ) (words more : List ℕ) → gives face (length words) (drawFrom W m (words ++ more) 0) ≡ gives face (length words) (drawFrom W m words 0)
-draw-behind W m face words more =
+-- Words behind the place where it is to end do not matter to a draw.
+pub draw-behind : (W m face place : ℕ) (words more : List ℕ) (at : ℕ) → at ≤ length words → place ≤ length words
+    → gives face place (drawFrom W m (words ++ more) at) ≡ gives face place (drawFrom W m words at)
+draw-behind W m face place words more at inside l =
     ⊎-elim
-    (λ (e : m ≡ 1). rw (e, draw-one W (words ++ more) 0, draw-one W words 0))
+    (λ (e : m ≡ 1). rw (e, draw-one W (words ++ more) at, draw-one W words at))
     (λ (ne : m ≢ 1).
-    rw (draw-many W (words ++ more) 0 m ne, draw-many W words 0 m ne) (scan-behind (m * (W / m)) m face words more 0 (length words) (omega arith)))
+    rw (draw-many W (words ++ more) at m ne, draw-many W words at m ne, drop-append-le at words more inside)
+    (scan-behind (m * (W / m)) m face place (drop at words) more at (omega (arith, length-drop at words))))
     (eq-or-ne m 1)
 
 -- ---- both
@@ -87,4 +91,4 @@ pub draw-reads : (W m face : ℕ) (before words more : List ℕ)
 draw-reads W m face before words more =
     let moves : drawFrom W m (before ++ (words ++ more)) (length before) ≡ moved (length before) (drawFrom W m (words ++ more) 0) =
     rw add-zero at (draw-moved W m before (words ++ more) 0) in
-    rw moves (gives-moved (length before) face (length words) (drawFrom W m (words ++ more) 0) ∙ draw-behind W m face words more)
+    rw moves (gives-moved (length before) face (length words) (drawFrom W m (words ++ more) 0) ∙ draw-behind W m face (length words) words more 0 (omega arith) (omega arith))

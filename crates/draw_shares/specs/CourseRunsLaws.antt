@@ -2,7 +2,8 @@
 use mathlib.Core.Path.{_≡_, refl, ap, ap₂, sym, _∙_}
 use mathlib.Core.Bool.{_&&_}
 use mathlib.Core.List.{List, [], _∷_, _++_, map}
-use Prim.Native.Nat.{ℕ, _+_, _*_}
+use Prim.Native.Nat.{ℕ, _+_, _*_, _≤_}
+use native.Mathlib.Omega.{arith}
 use native.Mathlib.Nat.{zero-add, add-zero, add-assoc}
 use lib.ListN.{length}
 use Rattle.base.specs.Lists.{Every, total}
@@ -31,6 +32,18 @@ module _ {A : Type 0} (W : ℕ) where
       rw (add-assoc (length before) at k, draw-moved W m before words at)
       (ap₂ _&&_ (gives-moved (length before) f (at + k) (drawFrom W m words at)) (decided-moved (p f) fs ks before words (at + k)))
 
+  -- Words behind those that are read decide nothing.
+  pub decided-behind : (p : Program A) (faces numbers words more : List ℕ) (at : ℕ) → at + total numbers ≤ length words
+      → decided W p faces numbers (words ++ more) at ≡ decided W p faces numbers words at
+  unfolding decided total
+  decided-behind (done a) [] [] words more at l = refl
+  decided-behind (done a) [] (k ∷ ks) words more at l = refl
+  decided-behind (done a) (f ∷ fs) ks words more at l = refl
+  decided-behind (draw m p) [] ks words more at l = refl
+  decided-behind (draw m p) (f ∷ fs) [] words more at l = refl
+  decided-behind (draw m p) (f ∷ fs) (k ∷ ks) words more at l =
+      ap₂ _&&_ (draw-behind W m f (at + k) words more at (omega arith) (omega arith)) (decided-behind (p f) fs ks words more (at + k) (omega arith))
+
   -- The runs of words that decide a course with these numbers are as many as the product over its draws.
   pub course-runs : (p : Program A) (faces numbers : List ℕ) → decidingRuns W p faces numbers ≡ courseRuns W p faces numbers
   unfolding decidingRuns decided courseRuns total faceRuns runs one
@@ -49,7 +62,7 @@ module _ {A : Type 0} (W : ℕ) where
       parts words more e =
           let later : decided W (p f) fs ks (words ++ more) (length words) ≡ decided W (p f) fs ks more 0 =
           rw add-zero at (decided-moved (p f) fs ks words more 0) in
-          rw (zero-add k, ← e) (ap₂ _&&_ (draw-behind W m f words more) later)
+          rw (zero-add k, ← e) (ap₂ _&&_ (draw-behind W m f (length words) words more 0 (omega arith) (omega arith)) later)
 
   -- The product in numbers, by the numbers drawn among alone.
   pub course-value : (p : Program A) (faces numbers : List ℕ) (a : A) → Follows p faces a
