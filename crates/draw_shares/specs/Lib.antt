@@ -16,6 +16,7 @@ pub mod ShareLaws
 pub mod CourseLaws
 pub mod CourseRunsLaws
 pub mod DecidedLaws
+pub mod BindRunsLaws
 pub mod Reservoir
 pub mod Apart
 pub mod Examples
