@@ -5,7 +5,8 @@ use mathlib.Core.List.{List, [], _∷_, _++_, map}
 use Prim.Native.Nat.{ℕ, _+_, _*_, _≤_}
 use native.Mathlib.Omega.{arith}
 use native.Mathlib.Nat.{zero-add, add-zero, add-assoc}
-use lib.ListN.{length}
+use lib.ListN.{length, take, drop, take-append-drop}
+use lib.Seq.{length-take-le}
 use Rattle.base.specs.Lists.{Every, total}
 use Rattle.base.specs.ListLaws.{every-map}
 use Rattle.draw.specs.Draw.{drawFrom}
@@ -43,6 +44,20 @@ module _ {A : Type 0} (W : ℕ) where
   decided-behind (draw m p) (f ∷ fs) [] words more at l = refl
   decided-behind (draw m p) (f ∷ fs) (k ∷ ks) words more at l =
       ap₂ _&&_ (draw-behind W m f (at + k) words more at (omega arith) (omega arith)) (decided-behind (p f) fs ks words more (at + k) (omega arith))
+
+  -- Cut at a place: the words in front of it decide what they did, and those behind it what all of them did from there on.
+  pub decided-front : (p : Program A) (faces numbers words : List ℕ) → total numbers ≤ length words
+      → decided W p faces numbers (take (total numbers) words) 0 ≡ decided W p faces numbers words 0
+  decided-front p faces numbers words l =
+      let whole = decided-behind p faces numbers (take (total numbers) words) (drop (total numbers) words) 0
+      (omega (arith, length-take-le (total numbers) words l)) in
+      sym (rw (take-append-drop (total numbers) words) at whole)
+
+  pub decided-back : (p : Program A) (faces numbers words : List ℕ) (n : ℕ) → n ≤ length words
+      → decided W p faces numbers (drop n words) 0 ≡ decided W p faces numbers words n
+  decided-back p faces numbers words n l =
+      let whole = decided-moved p faces numbers (take n words) (drop n words) 0 in
+      sym (rw (take-append-drop n words, length-take-le n words l, add-zero n) at whole)
 
   -- The runs of words that decide a course with these numbers are as many as the product over its draws.
   pub course-runs : (p : Program A) (faces numbers : List ℕ) → decidingRuns W p faces numbers ≡ courseRuns W p faces numbers
