@@ -1,6 +1,8 @@
 -- Whole histories: definitions first, then the theorems.
 pub mod History
+pub mod HistoryRuns
 pub mod Words
+pub mod HistoryRunsLaws
 pub mod CallKeeps
 pub mod Independence
 pub mod Shares
