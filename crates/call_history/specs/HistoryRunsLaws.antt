@@ -5,6 +5,7 @@ use mathlib.Core.Bool.{true}
 use mathlib.Core.List.{List, [], _∷_, _++_}
 use Prim.Native.Nat.{ℕ, _+_, _≤_, _^_}
 use native.Mathlib.Omega.{arith}
+use native.Mathlib.Nat.{zero-add}
 use lib.ListN.{length, take, drop, length-append, length-drop, take-append-drop}
 use lib.Seq.{length-take-le}
 use Rattle.base.specs.Lists.{total}
@@ -63,3 +64,65 @@ module _ (kind : Kind) where
             ∙ others .0,
         total-append (numbersOn p (s .tape) 0) (numbersSent kind rest after) ∙ ap₂ _+_ size (others .1) ∙ sym (length-append (s .tape) (wordsOf rest)),
       )
+
+  -- Tapes for these calls that they read to their ends, whose words are these, with the faces and the numbers of words of a course.
+  pub record Tapes (calls : List (CallFor kind)) (store : StoreFor kind) (faces numbers words : List ℕ) : Type 0 where
+    pub sent : List (SentTo kind)
+    pub same-calls : callsOf sent ≡ calls
+    pub same-words : wordsOf sent ≡ words
+    pub read : AllRead kind sent store
+    pub same-faces : facesSent kind sent store ≡ faces
+    pub same-numbers : numbersSent kind sent store ≡ numbers
+
+  no-tapes : (store : StoreFor kind) (faces numbers words : List ℕ) (final : StoreFor kind) → Follows (done store) faces final
+      → decided (2 ^ 32) (done store) faces numbers words 0 ≡ true → total numbers ≡ length words → Tapes [] store faces numbers words
+  unfolding Follows decided total callsOf wordsOf AllRead facesSent numbersSent
+  no-tapes store [] [] [] final h e l =
+      record { sent = []; same-calls = refl; same-words = refl; read = tt; same-faces = refl; same-numbers = refl }
+  no-tapes store [] [] (w ∷ ws) final h e l = absurd (omega arith)
+  no-tapes store [] (m ∷ ms) words final h e l = let z : _≡_ {A = ℕ} 0 1 = cc in absurd (omega arith)
+  no-tapes store (f ∷ fs) numbers words final h e l = absurd h
+
+  -- one tape more in front
+  tape-before : (call : CallFor kind) (calls : List (CallFor kind)) (store middle : StoreFor kind) (fs gs faces ms ns numbers tape more words : List ℕ)
+      → fs ++ gs ≡ faces → ms ++ ns ≡ numbers → tape ++ more ≡ words → total ms ≡ length tape
+      → Decides (callProgram kind call store) fs ms tape 0 middle → Tapes calls middle gs ns more → Tapes (call ∷ calls) store faces numbers words
+  unfolding callsOf wordsOf AllRead facesSent numbersSent storeAfter
+  tape-before call calls store middle fs gs faces ms ns numbers tape more words ef en ew l d rest =
+      let after : outcome kind call tape store [] .store ≡ middle = call-ran call tape store [] middle (0 + total ms) (d .runs) in
+      let ends : runAt (callProgram kind call store) tape 0 ≡ ran middle (length tape) = d .runs ∙ ap (ran middle) (omega arith) in
+      record {
+        sent = record { call = call; tape = tape; output = [] } ∷ rest .sent;
+        same-calls = ap (λ (cs : List (CallFor kind)). call ∷ cs) (rest .same-calls);
+        same-words = ap (λ (ws : List ℕ). tape ++ ws) (rest .same-words) ∙ ew;
+        read = rw after (ends, rest .read);
+        same-faces = rw after (ap₂ _++_ (d .faced) (rest .same-faces) ∙ ef);
+        same-numbers = rw after (ap₂ _++_ (d .numbered) (rest .same-numbers) ∙ en);
+      }
+
+  -- Words that decide a course of the calls with these numbers, and of which none is left, are those of such tapes.
+  pub decided-sent : (calls : List (CallFor kind)) (store : StoreFor kind) (faces numbers words : List ℕ) (final : StoreFor kind)
+      → Follows (runCalls kind calls store) faces final → decided (2 ^ 32) (runCalls kind calls store) faces numbers words 0 ≡ true
+      → total numbers ≡ length words → Tapes calls store faces numbers words
+  unfolding runCalls
+  decided-sent [] store faces numbers words final h e l = no-tapes store faces numbers words final h e l
+  decided-sent (call ∷ calls) store faces numbers words final h e l =
+      go (decided-apart (2 ^ 32) (callProgram kind call store) (runCalls kind calls) faces numbers words 0 final h e)
+      (λ middle gs ns more. decided-sent calls middle gs ns more final)
+    where
+      go : Parts (2 ^ 32) (callProgram kind call store) (runCalls kind calls) faces numbers words 0 final
+          → ((middle : StoreFor kind) (gs ns more : List ℕ) → Follows (runCalls kind calls middle) gs final
+          → decided (2 ^ 32) (runCalls kind calls middle) gs ns more 0 ≡ true → total ns ≡ length more → Tapes calls middle gs ns more)
+          → Tapes (call ∷ calls) store faces numbers words
+      go parts others =
+          let n = total (parts .ms) in
+          let sum : n + total (parts .ns) ≡ length words = sym (total-append (parts .ms) (parts .ns)) ∙ ap total (parts .numbers-apart) ∙ l in
+          let inside : n ≤ length words = omega arith in
+          let later = rw (zero-add n) at (parts .second-decided) in
+          tape-before call calls store (parts .middle) (parts .fs) (parts .gs) faces (parts .ms) (parts .ns) numbers (take n words) (drop n words) words
+          (parts .faces-apart) (parts .numbers-apart) (take-append-drop n words) (sym (length-take-le n words inside))
+          (decided-run (callProgram kind call store) (parts .fs) (parts .ms) (take n words) 0 (parts .middle) (parts .first)
+          (decided-front (2 ^ 32) (callProgram kind call store) (parts .fs) (parts .ms) words inside ∙ parts .first-decided))
+          (others (parts .middle) (parts .gs) (parts .ns) (drop n words) (parts .second)
+          (decided-back (2 ^ 32) (runCalls kind calls (parts .middle)) (parts .gs) (parts .ns) words n inside ∙ later)
+          (omega (arith, sum, length-drop n words)))
