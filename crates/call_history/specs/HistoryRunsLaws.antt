@@ -23,7 +23,7 @@ use Rattle.draw_shares.specs.BindRunsLaws.{decided-bind, Parts, decided-apart}
 use Rattle.call_outcomes.specs.Kind.{Kind, CallFor, StoreFor}
 use Rattle.call_outcomes.specs.Causes.{Decision, refuse, accept, decision}
 use Rattle.call_outcomes.specs.Outcome.{refused, finished, effect, outcomeBy, outcome, callProgramBy, callProgram}
-use Rattle.call_history.specs.History.{runCalls, Sent, SentTo, storeAfter, lastStore, facesSent, callsOf}
+use Rattle.call_history.specs.History.{runCalls, history, Sent, SentTo, storeAfter, lastStore, facesSent, callsOf}
 use Rattle.call_history.specs.HistoryRuns.{tapesOf, wordsOf, AllRead, numbersSent}
 
 module _ (kind : Kind) where
@@ -126,3 +126,31 @@ module _ (kind : Kind) where
           (others (parts .middle) (parts .gs) (parts .ns) (drop n words) (parts .second)
           (decided-back (2 ^ 32) (runCalls kind calls (parts .middle)) (parts .gs) (parts .ns) words n inside ∙ later)
           (omega (arith, sum, length-drop n words)))
+
+  -- There is only one way to cut words into tapes that these calls read to their ends.
+  pub tapes-unique : (sent sent′ : List (SentTo kind)) (store : StoreFor kind) → callsOf sent ≡ callsOf sent′ → AllRead kind sent store
+      → AllRead kind sent′ store → wordsOf sent ≡ wordsOf sent′ → tapesOf sent ≡ tapesOf sent′
+  unfolding callsOf wordsOf tapesOf AllRead
+  tapes-unique [] [] store c read read′ w = refl
+  tapes-unique [] (s′ ∷ rest′) store c read read′ w = let z : _≡_ {A = ℕ} 0 1 = cc in absurd (omega arith)
+  tapes-unique (s ∷ rest) [] store c read read′ w = let z : _≡_ {A = ℕ} 0 1 = cc in absurd (omega arith)
+  tapes-unique (s ∷ rest) (s′ ∷ rest′) store c read read′ w =
+      let call : s .call ≡ s′ .call = cc in
+      let calls : callsOf rest ≡ callsOf rest′ = cc in
+      let ran′ : runAt (callProgram kind (s .call) store) (s′ .tape) 0 ≡ ran (storeAfter kind s′ store) (length (s′ .tape)) = rw call (read′ .0) in
+      let same = tape-unique (callProgram kind (s .call) store) (s .tape) (s′ .tape) (wordsOf rest) (wordsOf rest′) (storeAfter kind s store)
+      (storeAfter kind s′ store) (read .0) ran′ w in
+      let both : ran (storeAfter kind s store) (length (s .tape)) ≡ ran (storeAfter kind s′ store) (length (s′ .tape)) =
+      sym (read .0) ∙ ap (λ (tape : List ℕ). runAt (callProgram kind (s .call) store) tape 0) (same .0) ∙ ran′ in
+      let after : storeAfter kind s store ≡ storeAfter kind s′ store = cc in
+      let read″ : AllRead kind rest′ (storeAfter kind s store) = rw after (read′ .1) in
+      ap₂ _∷_ (same .0) (tapes-unique rest rest′ (storeAfter kind s store) calls (read .1) read″ (same .1))
+
+-- Two courses of histories whose draws are among the same numbers are decided by equally many runs of words, for the same numbers of words
+-- read by the draws: whatever the faces, the calls and the kinds of sheet.
+pub history-fair : (kind kind′ : Kind) (calls : List (CallFor kind)) (calls′ : List (CallFor kind′)) (store final : StoreFor kind)
+    (store′ final′ : StoreFor kind′) (faces faces′ numbers : List ℕ) → Follows (history kind calls store) faces final
+    → Follows (history kind′ calls′ store′) faces′ final′ → amongOf (history kind calls store) faces ≡ amongOf (history kind′ calls′ store′) faces′
+    → decidingRuns (2 ^ 32) (history kind calls store) faces numbers ≡ decidingRuns (2 ^ 32) (history kind′ calls′ store′) faces′ numbers
+history-fair kind kind′ calls calls′ store final store′ final′ faces faces′ numbers =
+    course-fair (2 ^ 32) (history kind calls store) (history kind′ calls′ store′) faces faces′ numbers final final′
