@@ -2,7 +2,8 @@
 use mathlib.Core.Path.{_≡_}
 use mathlib.Core.List.{List, [], _∷_, _++_}
 use Prim.Native.Nat.{ℕ}
-use lib.ListN.{length}
+use lib.ListN.{length, take}
+use Rattle.base.specs.Lists.{total}
 use Rattle.draw_shares.specs.Tape.{ran, runAt}
 use Rattle.draw_shares.specs.CourseRuns.{numbersOn}
 use Rattle.call_outcomes.specs.Kind.{Kind, StoreFor}
@@ -32,3 +33,14 @@ unfoldable pub numbersSent : (kind : Kind) → List (SentTo kind) → StoreFor k
 numbersSent kind [] store = []
 numbersSent kind (sent ∷ rest) store =
     numbersOn (callProgram kind (sent .call) store) (sent .tape) 0 ++ numbersSent kind rest (storeAfter kind sent store)
+
+-- The calls with just the words on their tapes that they read.
+unfoldable pub wordsRead : (kind : Kind) → List (SentTo kind) → StoreFor kind → List (SentTo kind)
+wordsRead kind [] store = []
+wordsRead kind (sent ∷ rest) store =
+    record {
+      call = sent .call;
+      tape = take (total (numbersOn (callProgram kind (sent .call) store) (sent .tape) 0)) (sent .tape);
+      output = sent .output;
+    }
+    ∷ wordsRead kind rest (storeAfter kind sent store)

@@ -12,19 +12,20 @@ use Rattle.base.specs.Lists.{total}
 use Rattle.base.specs.ListLaws.{total-append}
 use Rattle.draw_shares.specs.Program.{Program, done, _>>=_}
 use Rattle.draw_shares.specs.Tape.{Ran, ran, ended, runAt, facesOn}
-use Rattle.draw_shares.specs.TapeLaws.{run-follows}
+use Rattle.draw_shares.specs.TapeLaws.{run-follows, run-within}
 use Rattle.draw_shares.specs.LongerTapeLaws.{tape-unique}
 use Rattle.draw_shares.specs.Course.{Follows}
 use Rattle.draw_shares.specs.CourseLaws.{follows-bind}
 use Rattle.draw_shares.specs.CourseRuns.{decided, decidingRuns, amongOf, numbersOn}
 use Rattle.draw_shares.specs.CourseRunsLaws.{decided-front, decided-back, course-fair}
-use Rattle.draw_shares.specs.DecidedLaws.{Decides, decided-run, run-decided}
+use Rattle.draw_shares.specs.DecidedLaws.{Decides, decided-run, run-decided, run-read}
 use Rattle.draw_shares.specs.BindRunsLaws.{decided-bind, Parts, decided-apart}
 use Rattle.call_outcomes.specs.Kind.{Kind, CallFor, StoreFor}
 use Rattle.call_outcomes.specs.Causes.{Decision, refuse, accept, decision}
 use Rattle.call_outcomes.specs.Outcome.{refused, finished, effect, outcomeBy, outcome, callProgramBy, callProgram}
-use Rattle.call_history.specs.History.{runCalls, history, Sent, SentTo, storeAfter, lastStore, facesSent, callsOf}
-use Rattle.call_history.specs.HistoryRuns.{tapesOf, wordsOf, AllRead, numbersSent}
+use Rattle.call_history.specs.History.{runCalls, history, Sent, SentTo, storeAfter, lastStore, NoneEnds, facesSent, callsOf}
+use Rattle.call_history.specs.Words.{call-ends}
+use Rattle.call_history.specs.HistoryRuns.{tapesOf, wordsOf, AllRead, numbersSent, wordsRead}
 
 module _ (kind : Kind) where
   -- A call whose program ends on its tape leaves the store that it ends with.
@@ -145,6 +146,38 @@ module _ (kind : Kind) where
       let after : storeAfter kind s store ≡ storeAfter kind s′ store = cc in
       let read″ : AllRead kind rest′ (storeAfter kind s store) = rw after (read′ .1) in
       ap₂ _∷_ (same .0) (tapes-unique rest rest′ (storeAfter kind s store) calls (read .1) read″ (same .1))
+
+  -- What stays when each tape is cut to the words that are read: the calls read all of it, and do the same.
+  pub record SameRead (sent : List (SentTo kind)) (store : StoreFor kind) : Type 0 where
+    pub read : AllRead kind (wordsRead kind sent store) store
+    pub same-calls : callsOf (wordsRead kind sent store) ≡ callsOf sent
+    pub same-faces : facesSent kind (wordsRead kind sent store) store ≡ facesSent kind sent store
+    pub same-numbers : numbersSent kind (wordsRead kind sent store) store ≡ numbersSent kind sent store
+    pub same-store : lastStore kind (wordsRead kind sent store) store ≡ lastStore kind sent store
+
+  -- Where no call returns 7, the words that are not read decide nothing.
+  pub read-same : (sent : List (SentTo kind)) (store : StoreFor kind) → NoneEnds kind sent store → SameRead sent store
+  unfolding wordsRead AllRead callsOf facesSent numbersSent lastStore NoneEnds storeAfter
+  read-same [] store none = record { read = tt; same-calls = refl; same-faces = refl; same-numbers = refl; same-store = refl }
+  read-same (s ∷ rest) store none =
+      let p = callProgram kind (s .call) store in
+      let after = outcome kind (s .call) (s .tape) store (s .output) .store in
+      let ends = call-ends kind (s .call) (s .tape) store (s .output) (none .0) in
+      let n = total (numbersOn p (s .tape) 0) in
+      let d = run-read p (s .tape) after (ends .0) (ends .1) in
+      let inside : n ≤ length (s .tape) =
+      omega (arith, run-decided p (s .tape) 0 after (ends .0) (ends .1) .1, run-within p (s .tape) 0 (omega arith) after (ends .0) (ends .1)) in
+      let size : 0 + n ≡ length (take n (s .tape)) = omega (arith, length-take-le n (s .tape) inside) in
+      let same : outcome kind (s .call) (take n (s .tape)) store (s .output) .store ≡ after =
+      call-ran (s .call) (take n (s .tape)) store (s .output) after (0 + n) (d .runs) in
+      let others = read-same rest after (none .1) in
+      record {
+        read = rw same (d .runs ∙ ap (ran after) size, others .read);
+        same-calls = ap (λ (cs : List (CallFor kind)). s .call ∷ cs) (others .same-calls);
+        same-faces = rw same (ap₂ _++_ (d .faced) (others .same-faces));
+        same-numbers = rw same (ap₂ _++_ (d .numbered) (others .same-numbers));
+        same-store = ap (λ (t : StoreFor kind). lastStore kind (wordsRead kind rest after) t) same ∙ others .same-store;
+      }
 
 -- Two courses of histories whose draws are among the same numbers are decided by equally many runs of words, for the same numbers of words
 -- read by the draws: whatever the faces, the calls and the kinds of sheet.

@@ -5,6 +5,7 @@ use mathlib.Core.List.{List, [], _∷_, _++_}
 use Prim.Native.Nat.{ℕ, _+_, _-_, _≤_, _^_}
 use native.Mathlib.Omega.{arith}
 use native.Mathlib.Nat.{add-zero}
+use lib.ListN.{length, take}
 use borrow.Author.Tests.{eq-eqb, eqb-true}
 use Rattle.base.specs.Lists.{total}
 use Rattle.base.specs.BoolLaws.{and-both}
@@ -15,8 +16,10 @@ use Rattle.draw.specs.DrawLaws.{Sound, draw-sound}
 use Rattle.draw.specs.Runs.{gives}
 use Rattle.draw_shares.specs.Program.{Program, done, draw}
 use Rattle.draw_shares.specs.Tape.{ran, ended, afterDraw, runAt, facesAfter, facesOn}
+use Rattle.draw_shares.specs.TapeLaws.{run-follows, run-within}
 use Rattle.draw_shares.specs.Course.{Follows}
 use Rattle.draw_shares.specs.CourseRuns.{decided, numbersAfter, numbersOn}
+use Rattle.draw_shares.specs.CourseRunsLaws.{decided-front}
 
 gives-face : (face place : ℕ) (d : Drawn) → gives face place d ≡ true → d ≡ Face face place
 unfolding gives
@@ -76,3 +79,12 @@ run-decided {A} (draw m p) tape at a next e =
         let rest = ih f n e in
         (rw (place, same, eq-eqb f f refl, eq-eqb n n refl) (rest .0), omega (arith, rest .1))
     go Ended same ih e = let z : _≡_ {A = ℕ} 0 1 = cc in absurd (omega arith)
+
+-- A finished run is the same on the words that it read alone.
+pub run-read : {A : Type 0} (p : Program A) (tape : List ℕ) (a : A) (next : ℕ) → runAt p tape 0 ≡ ran a next
+    → Decides p (facesOn p tape 0) (numbersOn p tape 0) (take (total (numbersOn p tape 0)) tape) 0 a
+run-read p tape a next e =
+    let known = run-decided p tape 0 a next e in
+    let inside : next ≤ length tape = run-within p tape 0 (omega arith) a next e in
+    decided-run p (facesOn p tape 0) (numbersOn p tape 0) (take (total (numbersOn p tape 0)) tape) 0 a (run-follows p tape 0 a next e)
+    (decided-front (2 ^ 32) p (facesOn p tape 0) (numbersOn p tape 0) tape (omega (arith, known .1)) ∙ known .0)
