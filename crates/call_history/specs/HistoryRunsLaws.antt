@@ -29,7 +29,7 @@ use Rattle.call_history.specs.HistoryRuns.{tapesOf, wordsOf, AllRead, nu
 
 module _ (kind : Kind) where
   -- A call whose program ends on its tape leaves the store that it ends with.
-  call-ran : (call : CallFor kind) (tape : List ℕ) (store : StoreFor kind) (output : List ℕ) (after : StoreFor kind) (next : ℕ)
+  pub call-ran : (call : CallFor kind) (tape : List ℕ) (store : StoreFor kind) (output : List ℕ) (after : StoreFor kind) (next : ℕ)
       → runAt (callProgram kind call store) tape 0 ≡ ran after next → outcome kind call tape store output .store ≡ after
   unfolding outcome outcomeBy callProgram callProgramBy finished refused runAt
   call-ran call tape store output after next = go (decision kind call store)

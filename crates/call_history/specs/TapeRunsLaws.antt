@@ -1,0 +1,68 @@
+-- The ways to fill the tapes of calls that decide a course of them are as many for every course that draws among the same numbers.
+use mathlib.Core.Path.{_≡_, refl, ap, ap₂, sym, _∙_}
+use mathlib.Core.Bool.{Bool, true, false, _&&_}
+use mathlib.Core.List.{List, [], _∷_, _++_, map}
+use Prim.Native.Nat.{ℕ, _+_, _*_, _^_}
+use native.Mathlib.Omega.{arith}
+use lib.ListN.{length, take, drop}
+use lib.Seq.{take-at, drop-at}
+use Rattle.base.specs.Lists.{total}
+use Rattle.draw.specs.Runs.{one, runs}
+use Rattle.draw.specs.RunsLaws.{runs-none, runs-times}
+use Rattle.draw_shares.specs.Course.{Follows}
+use Rattle.draw_shares.specs.CourseRuns.{decided, decidingRuns, amongOf, amongRuns}
+use Rattle.draw_shares.specs.CourseRunsLaws.{course-runs, course-value}
+use Rattle.draw_shares.specs.DecidedLaws.{Decides, decided-run}
+use Rattle.call_outcomes.specs.Kind.{Kind, CallFor, StoreFor}
+use Rattle.call_outcomes.specs.Outcome.{callProgram}
+use Rattle.call_history.specs.History.{storeAfter}
+use Rattle.call_history.specs.HistoryRunsLaws.{call-ran}
+use Rattle.call_history.specs.TapeRuns.{cut, tapeRuns, with, tapesDecide, CallsAmong, callsRuns}
+
+-- a second test matters only where the first one passes
+and-where : (b x y : Bool) → (b ≡ true → x ≡ y) → (b && x) ≡ (b && y)
+and-where true x y h = h refl
+and-where false x y h = refl
+
+module _ (kind : Kind) where
+  -- The tape of a call that has these faces leaves the store with which they end.
+  store-decided : (call : CallFor kind) (store after : StoreFor kind) (fs ks tape : List ℕ) → Follows (callProgram kind call store) fs after
+      → decided (2 ^ 32) (callProgram kind call store) fs ks tape 0 ≡ true → storeAfter kind (with kind call tape) store ≡ after
+  unfolding storeAfter with
+  store-decided call store after fs ks tape h e =
+      call-ran kind call tape store [] after _ (decided-run (callProgram kind call store) fs ks tape 0 after h e .runs)
+
+  -- The ways to fill the tapes that decide a course, with these numbers of words, are the product over the calls.
+  pub tape-runs : (calls : List (CallFor kind)) (store : StoreFor kind) (faces among numbers : List (List ℕ)) → CallsAmong kind calls store faces among
+      → tapeRuns (map total numbers) (tapesDecide kind calls store faces numbers) ≡ callsRuns among numbers
+  unfolding tapeRuns tapesDecide CallsAmong callsRuns cut total runs one decidingRuns
+  tape-runs [] store [] [] [] h = refl
+  tape-runs [] store [] [] (ks ∷ numbers) h = runs-none (2 ^ 32) (total ks + total (map total numbers))
+  tape-runs [] store [] (ms ∷ among) numbers h = absurd h
+  tape-runs [] store (fs ∷ faces) among numbers h = absurd h
+  tape-runs (call ∷ calls) store [] among numbers h = absurd h
+  tape-runs (call ∷ calls) store (fs ∷ faces) [] numbers h = absurd h
+  tape-runs (call ∷ calls) store (fs ∷ faces) (ms ∷ among) [] h = runs-none (2 ^ 32) 0
+  tape-runs (call ∷ calls) store (fs ∷ faces) (ms ∷ among) (ks ∷ numbers) h =
+      runs-times (2 ^ 32) (total ks) (total (map total numbers)) _ (λ tape. decided (2 ^ 32) (callProgram kind call store) fs ks tape 0)
+      (λ more. tapesDecide kind calls (h .0) faces numbers (cut (map total numbers) more)) parts
+      ∙ ap₂ _*_
+      (course-runs (2 ^ 32) (callProgram kind call store) fs ks ∙ course-value (2 ^ 32) (callProgram kind call store) fs ks (h .0) (h .1)
+      ∙ ap (λ (xs : List ℕ). amongRuns (2 ^ 32) xs ks) (h .2))
+      (tape-runs calls (h .0) faces among numbers (h .3))
+    where
+      parts : (tape more : List ℕ) → length tape ≡ total ks
+          → tapesDecide kind (call ∷ calls) store (fs ∷ faces) (ks ∷ numbers) (cut (total ks ∷ map total numbers) (tape ++ more))
+          ≡ (decided (2 ^ 32) (callProgram kind call store) fs ks tape 0 && tapesDecide kind calls (h .0) faces numbers (cut (map total numbers) more))
+      parts tape more l =
+          rw (take-at tape more (total ks) l, drop-at tape more (total ks) l)
+          (and-where (decided (2 ^ 32) (callProgram kind call store) fs ks tape 0) _ _
+          (λ e. ap (λ (s : StoreFor kind). tapesDecide kind calls s faces numbers (cut (map total numbers) more))
+          (store-decided call store (h .0) fs ks tape (h .1) e)))
+
+-- So there are equally many for every two courses of calls whose draws are among the same numbers: whatever the faces.
+pub tapes-fair : (kind kind′ : Kind) (calls : List (CallFor kind)) (calls′ : List (CallFor kind′)) (store : StoreFor kind) (store′ : StoreFor kind′)
+    (faces faces′ among numbers : List (List ℕ)) → CallsAmong kind calls store faces among → CallsAmong kind′ calls′ store′ faces′ among
+    → tapeRuns (map total numbers) (tapesDecide kind calls store faces numbers) ≡ tapeRuns (map total numbers) (tapesDecide kind′ calls′ store′ faces′ numbers)
+tapes-fair kind kind′ calls calls′ store store′ faces faces′ among numbers h h′ =
+    tape-runs kind calls store faces among numbers h ∙ sym (tape-runs kind′ calls′ store′ faces′ among numbers h′)
