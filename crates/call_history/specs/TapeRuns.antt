@@ -22,8 +22,8 @@ unfoldable pub tapeRuns : List ℕ → (List (List ℕ) → Bool) → ℕ
 tapeRuns lengths test = runs (2 ^ 32) (total lengths) (λ words. test (cut lengths words))
 
 -- A call with its tape; the output that it is lent does not matter here.
-unfoldable pub with : (kind : Kind) → CallFor kind → List ℕ → SentTo kind
-with kind call tape = record { call = call; tape = tape; output = [] }
+unfoldable pub onTape : (kind : Kind) → CallFor kind → List ℕ → SentTo kind
+onTape kind call tape = record { call = call; tape = tape; output = [] }
 
 -- On its tape, each call has exactly its faces, each draw reading exactly its number of words, from the store that the calls before it left.
 unfoldable pub tapesDecide : (kind : Kind) → List (CallFor kind) → StoreFor kind → List (List ℕ) → List (List ℕ) → List (List ℕ) → Bool
@@ -34,7 +34,7 @@ tapesDecide kind (call ∷ calls) store [] numbers tapes = false
 tapesDecide kind (call ∷ calls) store (fs ∷ faces) [] tapes = false
 tapesDecide kind (call ∷ calls) store (fs ∷ faces) (ks ∷ numbers) [] = false
 tapesDecide kind (call ∷ calls) store (fs ∷ faces) (ks ∷ numbers) (tape ∷ tapes) =
-    decided (2 ^ 32) (callProgram kind call store) fs ks tape 0 && tapesDecide kind calls (storeAfter kind (with kind call tape) store) faces numbers tapes
+    decided (2 ^ 32) (callProgram kind call store) fs ks tape 0 && tapesDecide kind calls (storeAfter kind (onTape kind call tape) store) faces numbers tapes
 
 -- The faces, call by call, are a course of the calls, and these are the numbers that they draw among.
 unfoldable pub CallsAmong : (kind : Kind) → List (CallFor kind) → StoreFor kind → List (List ℕ) → List (List ℕ) → Type 0
@@ -53,3 +53,9 @@ callsRuns [] [] = 1
 callsRuns [] (ks ∷ numbers) = 0
 callsRuns (ms ∷ among) [] = 0
 callsRuns (ms ∷ among) (ks ∷ numbers) = amongRuns (2 ^ 32) ms ks * callsRuns among numbers
+
+-- The calls with these tapes.
+unfoldable pub sentWith : (kind : Kind) → List (CallFor kind) → List (List ℕ) → List (SentTo kind)
+sentWith kind [] tapes = []
+sentWith kind (call ∷ calls) [] = []
+sentWith kind (call ∷ calls) (tape ∷ tapes) = onTape kind call tape ∷ sentWith kind calls tapes

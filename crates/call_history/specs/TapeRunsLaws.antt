@@ -1,23 +1,26 @@
 -- The ways to fill the tapes of calls that decide a course of them are as many for every course that draws among the same numbers.
 use mathlib.Core.Path.{_≡_, refl, ap, ap₂, sym, _∙_}
 use mathlib.Core.Bool.{Bool, true, false, _&&_}
-use mathlib.Core.List.{List, [], _∷_, _++_, map}
+use mathlib.Core.List.{List, [], _∷_, _++_, map, flatten}
 use Prim.Native.Nat.{ℕ, _+_, _*_, _^_}
 use native.Mathlib.Omega.{arith}
 use lib.ListN.{length, take, drop}
 use lib.Seq.{take-at, drop-at}
 use Rattle.base.specs.Lists.{total}
+use Rattle.base.specs.BoolLaws.{and-both}
 use Rattle.draw.specs.Runs.{one, runs}
 use Rattle.draw.specs.RunsLaws.{runs-none, runs-times}
+use Rattle.draw_shares.specs.Tape.{ran}
 use Rattle.draw_shares.specs.Course.{Follows}
 use Rattle.draw_shares.specs.CourseRuns.{decided, decidingRuns, amongOf, amongRuns}
 use Rattle.draw_shares.specs.CourseRunsLaws.{course-runs, course-value}
 use Rattle.draw_shares.specs.DecidedLaws.{Decides, decided-run}
 use Rattle.call_outcomes.specs.Kind.{Kind, CallFor, StoreFor}
 use Rattle.call_outcomes.specs.Outcome.{callProgram}
-use Rattle.call_history.specs.History.{storeAfter}
+use Rattle.call_history.specs.History.{storeAfter, facesSent}
+use Rattle.call_history.specs.HistoryRuns.{AllRead, numbersSent}
 use Rattle.call_history.specs.HistoryRunsLaws.{call-ran}
-use Rattle.call_history.specs.TapeRuns.{cut, tapeRuns, with, tapesDecide, CallsAmong, callsRuns}
+use Rattle.call_history.specs.TapeRuns.{cut, tapeRuns, onTape, tapesDecide, CallsAmong, callsRuns, sentWith}
 
 -- a second test matters only where the first one passes
 and-where : (b x y : Bool) → (b ≡ true → x ≡ y) → (b && x) ≡ (b && y)
@@ -27,8 +30,8 @@ and-where false x y h = refl
 module _ (kind : Kind) where
   -- The tape of a call that has these faces leaves the store with which they end.
   store-decided : (call : CallFor kind) (store after : StoreFor kind) (fs ks tape : List ℕ) → Follows (callProgram kind call store) fs after
-      → decided (2 ^ 32) (callProgram kind call store) fs ks tape 0 ≡ true → storeAfter kind (with kind call tape) store ≡ after
-  unfolding storeAfter with
+      → decided (2 ^ 32) (callProgram kind call store) fs ks tape 0 ≡ true → storeAfter kind (onTape kind call tape) store ≡ after
+  unfolding storeAfter onTape
   store-decided call store after fs ks tape h e =
       call-ran kind call tape store [] after _ (decided-run (callProgram kind call store) fs ks tape 0 after h e .runs)
 
@@ -59,6 +62,32 @@ module _ (kind : Kind) where
           (and-where (decided (2 ^ 32) (callProgram kind call store) fs ks tape 0) _ _
           (λ e. ap (λ (s : StoreFor kind). tapesDecide kind calls s faces numbers (cut (map total numbers) more))
           (store-decided call store (h .0) fs ks tape (h .1) e)))
+
+  -- Tapes of these lengths that decide a course: the calls read them to their ends, and their words decide its faces with these numbers.
+  pub tapes-decided : (calls : List (CallFor kind)) (store : StoreFor kind) (faces among numbers tapes : List (List ℕ))
+      → CallsAmong kind calls store faces among → map length tapes ≡ map total numbers → tapesDecide kind calls store faces numbers tapes ≡ true
+      → AllRead kind (sentWith kind calls tapes) store × (facesSent kind (sentWith kind calls tapes) store ≡ flatten faces)
+      × (numbersSent kind (sentWith kind calls tapes) store ≡ flatten numbers)
+  unfolding tapesDecide CallsAmong sentWith AllRead facesSent numbersSent flatten onTape
+  tapes-decided [] store [] [] [] tapes h l e = (tt, refl, refl)
+  tapes-decided [] store [] [] (ks ∷ numbers) tapes h l e = let z : _≡_ {A = ℕ} 0 1 = cc in absurd (omega arith)
+  tapes-decided [] store [] (ms ∷ among) numbers tapes h l e = absurd h
+  tapes-decided [] store (fs ∷ faces) among numbers tapes h l e = absurd h
+  tapes-decided (call ∷ calls) store [] among numbers tapes h l e = absurd h
+  tapes-decided (call ∷ calls) store (fs ∷ faces) [] numbers tapes h l e = absurd h
+  tapes-decided (call ∷ calls) store (fs ∷ faces) (ms ∷ among) [] tapes h l e = let z : _≡_ {A = ℕ} 0 1 = cc in absurd (omega arith)
+  tapes-decided (call ∷ calls) store (fs ∷ faces) (ms ∷ among) (ks ∷ numbers) [] h l e = let z : _≡_ {A = ℕ} 0 1 = cc in absurd (omega arith)
+  tapes-decided (call ∷ calls) store (fs ∷ faces) (ms ∷ among) (ks ∷ numbers) (tape ∷ tapes) h l e =
+      let size : length tape ≡ total ks = cc in
+      let sizes : map length tapes ≡ map total numbers = cc in
+      let both = and-both (decided (2 ^ 32) (callProgram kind call store) fs ks tape 0) _ e in
+      let d = decided-run (callProgram kind call store) fs ks tape 0 (h .0) (h .1) (both .0) in
+      let after : storeAfter kind (onTape kind call tape) store ≡ h .0 = store-decided call store (h .0) fs ks tape (h .1) (both .0) in
+      let others = tapes-decided calls (h .0) faces among numbers tapes (h .3) sizes (rw after at (both .1)) in (
+        rw after (d .runs ∙ ap (ran (h .0)) (omega arith), others .0),
+        rw after (ap₂ _++_ (d .faced) (others .1)),
+        rw after (ap₂ _++_ (d .numbered) (others .2)),
+      )
 
 -- So there are equally many for every two courses of calls whose draws are among the same numbers: whatever the faces.
 pub tapes-fair : (kind kind′ : Kind) (calls : List (CallFor kind)) (calls′ : List (CallFor kind′)) (store : StoreFor kind) (store′ : StoreFor kind′)
