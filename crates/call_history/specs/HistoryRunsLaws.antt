@@ -10,8 +10,8 @@ use lib.ListN.{length, take, drop, length-append, length-drop, take-append-drop}
 use lib.Seq.{length-take-le}
 use Rattle.base.specs.Lists.{total}
 use Rattle.base.specs.ListLaws.{total-append}
-use Rattle.draw_shares.specs.Program.{Program, done, _>>=_}
-use Rattle.draw_shares.specs.Tape.{Ran, ran, ended, runAt, facesOn}
+use Rattle.draw_shares.specs.Program.{done}
+use Rattle.draw_shares.specs.Tape.{ran, runAt, facesOn}
 use Rattle.draw_shares.specs.TapeLaws.{run-follows, run-within}
 use Rattle.draw_shares.specs.LongerTapeLaws.{tape-unique}
 use Rattle.draw_shares.specs.Course.{Follows}
@@ -22,8 +22,8 @@ use Rattle.draw_shares.specs.DecidedLaws.{Decides, decided-run, run-decided, ru
 use Rattle.draw_shares.specs.BindRunsLaws.{decided-bind, Parts, decided-apart}
 use Rattle.call_outcomes.specs.Kind.{Kind, CallFor, StoreFor}
 use Rattle.call_outcomes.specs.Causes.{Decision, refuse, accept, decision}
-use Rattle.call_outcomes.specs.Outcome.{refused, finished, effect, outcomeBy, outcome, callProgramBy, callProgram}
-use Rattle.call_history.specs.History.{runCalls, history, Sent, SentTo, storeAfter, lastStore, NoneEnds, facesSent, callsOf}
+use Rattle.call_outcomes.specs.Outcome.{refused, finished, outcomeBy, outcome, callProgramBy, callProgram}
+use Rattle.call_history.specs.History.{runCalls, history, SentTo, storeAfter, lastStore, NoneEnds, facesSent, callsOf}
 use Rattle.call_history.specs.Words.{call-ends}
 use Rattle.call_history.specs.HistoryRuns.{tapesOf, wordsOf, AllRead, numbersSent, wordsRead}
 

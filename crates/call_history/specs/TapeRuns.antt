@@ -1,13 +1,14 @@
 -- How many ways to fill the tapes of calls decide a course of them (document 01, "Histories and shares"). Definitions only.
 use mathlib.Core.Path.{_≡_}
 use mathlib.Core.Bool.{Bool, true, false, _&&_}
-use mathlib.Core.List.{List, [], _∷_, map}
+use mathlib.Core.List.{List, [], _∷_}
 use Prim.Native.Nat.{ℕ, _*_, _^_}
 use lib.ListN.{take, drop}
 use Rattle.base.specs.Lists.{total}
 use Rattle.draw.specs.Runs.{runs}
+use Rattle.draw_shares.specs.Tape.{facesOn}
 use Rattle.draw_shares.specs.Course.{Follows}
-use Rattle.draw_shares.specs.CourseRuns.{decided, amongOf, amongRuns}
+use Rattle.draw_shares.specs.CourseRuns.{decided, amongOf, amongRuns, numbersOn}
 use Rattle.call_outcomes.specs.Kind.{Kind, CallFor, StoreFor}
 use Rattle.call_outcomes.specs.Outcome.{callProgram}
 use Rattle.call_history.specs.History.{SentTo, storeAfter}
@@ -59,3 +60,14 @@ unfoldable pub sentWith : (kind : Kind) → List (CallFor kind) → List (List �
 sentWith kind [] tapes = []
 sentWith kind (call ∷ calls) [] = []
 sentWith kind (call ∷ calls) (tape ∷ tapes) = onTape kind call tape ∷ sentWith kind calls tapes
+
+-- The faces that the words of the tapes decide, and the numbers of words that the draws read, call by call.
+unfoldable pub facesByCall : (kind : Kind) → List (SentTo kind) → StoreFor kind → List (List ℕ)
+facesByCall kind [] store = []
+facesByCall kind (sent ∷ rest) store =
+    facesOn (callProgram kind (sent .call) store) (sent .tape) 0 ∷ facesByCall kind rest (storeAfter kind sent store)
+
+unfoldable pub numbersByCall : (kind : Kind) → List (SentTo kind) → StoreFor kind → List (List ℕ)
+numbersByCall kind [] store = []
+numbersByCall kind (sent ∷ rest) store =
+    numbersOn (callProgram kind (sent .call) store) (sent .tape) 0 ∷ numbersByCall kind rest (storeAfter kind sent store)

@@ -4,23 +4,24 @@ use mathlib.Core.Bool.{Bool, true, false, _&&_}
 use mathlib.Core.List.{List, [], _∷_, _++_, map, flatten}
 use Prim.Native.Nat.{ℕ, _+_, _*_, _^_}
 use native.Mathlib.Omega.{arith}
-use lib.ListN.{length, take, drop}
+use lib.ListN.{length}
 use lib.Seq.{take-at, drop-at}
 use Rattle.base.specs.Lists.{total}
 use Rattle.base.specs.BoolLaws.{and-both}
 use Rattle.draw.specs.Runs.{one, runs}
 use Rattle.draw.specs.RunsLaws.{runs-none, runs-times}
-use Rattle.draw_shares.specs.Tape.{ran}
+use Rattle.draw_shares.specs.Tape.{ran, runAt, facesOn}
+use Rattle.draw_shares.specs.TapeLaws.{run-follows}
 use Rattle.draw_shares.specs.Course.{Follows}
 use Rattle.draw_shares.specs.CourseRuns.{decided, decidingRuns, amongOf, amongRuns}
 use Rattle.draw_shares.specs.CourseRunsLaws.{course-runs, course-value}
-use Rattle.draw_shares.specs.DecidedLaws.{Decides, decided-run}
+use Rattle.draw_shares.specs.DecidedLaws.{decided-run, run-decided}
 use Rattle.call_outcomes.specs.Kind.{Kind, CallFor, StoreFor}
-use Rattle.call_outcomes.specs.Outcome.{callProgram}
-use Rattle.call_history.specs.History.{storeAfter, facesSent}
-use Rattle.call_history.specs.HistoryRuns.{AllRead, numbersSent}
+use Rattle.call_outcomes.specs.Outcome.{outcome, callProgram}
+use Rattle.call_history.specs.History.{SentTo, storeAfter, facesSent, callsOf}
+use Rattle.call_history.specs.HistoryRuns.{tapesOf, AllRead, numbersSent}
 use Rattle.call_history.specs.HistoryRunsLaws.{call-ran}
-use Rattle.call_history.specs.TapeRuns.{cut, tapeRuns, onTape, tapesDecide, CallsAmong, callsRuns, sentWith}
+use Rattle.call_history.specs.TapeRuns.{cut, tapeRuns, onTape, tapesDecide, CallsAmong, callsRuns, sentWith, facesByCall, numbersByCall}
 
 -- a second test matters only where the first one passes
 and-where : (b x y : Bool) → (b ≡ true → x ≡ y) → (b && x) ≡ (b && y)
@@ -88,6 +89,35 @@ module _ (kind : Kind) where
         rw after (ap₂ _++_ (d .faced) (others .1)),
         rw after (ap₂ _++_ (d .numbered) (others .2)),
       )
+
+  -- The output that a call is lent does not change the store after it.
+  store-on-tape : (s : SentTo kind) (store : StoreFor kind) (next : ℕ)
+      → runAt (callProgram kind (s .call) store) (s .tape) 0 ≡ ran (storeAfter kind s store) next
+      → storeAfter kind (onTape kind (s .call) (s .tape)) store ≡ storeAfter kind s store
+  unfolding storeAfter onTape
+  store-on-tape s store next e = call-ran kind (s .call) (s .tape) store [] (outcome kind (s .call) (s .tape) store (s .output) .store) next e
+
+  -- What tapes are that the calls read to their ends: one of the ways to fill tapes of their lengths that decide a course of the calls.
+  pub record Counted (sent : List (SentTo kind)) (store : StoreFor kind) : Type 0 where
+    pub among : List (List ℕ)
+    pub course : CallsAmong kind (callsOf sent) store (facesByCall kind sent store) among
+    pub lengths : map length (tapesOf sent) ≡ map total (numbersByCall kind sent store)
+    pub decides : tapesDecide kind (callsOf sent) store (facesByCall kind sent store) (numbersByCall kind sent store) (tapesOf sent) ≡ true
+
+  pub read-counted : (sent : List (SentTo kind)) (store : StoreFor kind) → AllRead kind sent store → Counted sent store
+  unfolding tapesDecide CallsAmong callsOf tapesOf AllRead facesByCall numbersByCall
+  read-counted [] store read = record { among = []; course = tt; lengths = refl; decides = refl }
+  read-counted (s ∷ rest) store read =
+      let p = callProgram kind (s .call) store in
+      let after = storeAfter kind s store in
+      let known = run-decided p (s .tape) 0 after (length (s .tape)) (read .0) in
+      let others = read-counted rest after (read .1) in
+      record {
+        among = amongOf p (facesOn p (s .tape) 0) ∷ others .among;
+        course = (after, run-follows p (s .tape) 0 after (length (s .tape)) (read .0), refl, others .course);
+        lengths = ap₂ _∷_ (omega (arith, known .1)) (others .lengths);
+        decides = rw (store-on-tape s store (length (s .tape)) (read .0)) (ap₂ _&&_ (known .0) (others .decides));
+      }
 
 -- So there are equally many for every two courses of calls whose draws are among the same numbers: whatever the faces.
 pub tapes-fair : (kind kind′ : Kind) (calls : List (CallFor kind)) (calls′ : List (CallFor kind′)) (store : StoreFor kind) (store′ : StoreFor kind′)

@@ -3,7 +3,7 @@ use mathlib.Core.Path.{_≡_, refl}
 use mathlib.Core.Logic.{_≢_}
 use mathlib.Core.List.{List, [], _∷_}
 use Prim.Native.Nat.{ℕ}
-use Rattle.draw_shares.specs.Program.{Program, done}
+use Rattle.draw_shares.specs.Program.{Program}
 use Rattle.draw_shares.specs.Tape.{Ran, ran, ended, runAt, facesOn}
 use Rattle.draw_shares.specs.TapeLaws.{run-done, run-follows}
 use Rattle.draw_shares.specs.Course.{Follows}

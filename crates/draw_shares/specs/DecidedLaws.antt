@@ -1,7 +1,7 @@
 -- That words decide a course says what the run on a tape does.
 use mathlib.Core.Path.{_≡_, refl, ap, ap₂, sym, _∙_}
-use mathlib.Core.Bool.{Bool, true, false, _&&_}
-use mathlib.Core.List.{List, [], _∷_, _++_}
+use mathlib.Core.Bool.{true}
+use mathlib.Core.List.{List, [], _∷_}
 use Prim.Native.Nat.{ℕ, _+_, _-_, _≤_, _^_}
 use native.Mathlib.Omega.{arith}
 use native.Mathlib.Nat.{add-zero}
@@ -11,11 +11,11 @@ use Rattle.base.specs.Lists.{total}
 use Rattle.base.specs.BoolLaws.{and-both}
 use Rattle.draw.specs.declared.Drawn.{Drawn}
 use Rattle.draw.specs.declared.Drawn.the-variants.{Face, Ended}
-use Rattle.draw.specs.Draw.{drawFrom, drawAt}
-use Rattle.draw.specs.DrawLaws.{Sound, draw-sound}
+use Rattle.draw.specs.Draw.{drawAt}
+use Rattle.draw.specs.DrawLaws.{draw-sound}
 use Rattle.draw.specs.Runs.{gives}
 use Rattle.draw_shares.specs.Program.{Program, done, draw}
-use Rattle.draw_shares.specs.Tape.{ran, ended, afterDraw, runAt, facesAfter, facesOn}
+use Rattle.draw_shares.specs.Tape.{ran, afterDraw, runAt, facesAfter, facesOn}
 use Rattle.draw_shares.specs.TapeLaws.{run-follows, run-within}
 use Rattle.draw_shares.specs.Course.{Follows}
 use Rattle.draw_shares.specs.CourseRuns.{decided, numbersAfter, numbersOn}
