@@ -24,11 +24,13 @@ scan-moved limit m n [] at = rw (scan-nil limit m (n + at), scan-nil limit m at)
 scan-moved limit m n (word ∷ words) at =
     ⊎-elim
     (λ (h : word < limit). rw (scan-take limit m word words (n + at) h, scan-take limit m word words at h, add-suc))
-    (λ (h : limit ≤ word). rw (scan-pass limit m word words (n + at) h, scan-pass limit m word words at h, ← add-suc n at) (scan-moved limit m n words (suc at)))
+    (λ (h : limit ≤ word).
+    rw (scan-pass limit m word words (n + at) h, scan-pass limit m word words at h, ← add-suc n at) (scan-moved limit m n words (suc at)))
     (lt-or-ge word limit)
 
 -- Words before its place only move a draw.
-pub draw-moved : (W m : ℕ) (before words : List ℕ) (at : ℕ) → drawFrom W m (before ++ words) (length before + at) ≡ moved (length before) (drawFrom W m words at)
+pub draw-moved : (W m : ℕ) (before words : List ℕ) (at : ℕ)
+    → drawFrom W m (before ++ words) (length before + at) ≡ moved (length before) (drawFrom W m words at)
 draw-moved W m before words at =
     ⊎-elim
     (λ (e : m ≡ 1). rw (e, draw-one W (before ++ words) (length before + at), draw-one W words at))
@@ -91,4 +93,6 @@ pub draw-reads : (W m face : ℕ) (before words more : List ℕ)
 draw-reads W m face before words more =
     let moves : drawFrom W m (before ++ (words ++ more)) (length before) ≡ moved (length before) (drawFrom W m (words ++ more) 0) =
     rw add-zero at (draw-moved W m before (words ++ more) 0) in
-    rw moves (gives-moved (length before) face (length words) (drawFrom W m (words ++ more) 0) ∙ draw-behind W m face (length words) words more 0 (omega arith) (omega arith))
+    rw moves
+    (gives-moved (length before) face (length words) (drawFrom W m (words ++ more) 0)
+    ∙ draw-behind W m face (length words) words more 0 (omega arith) (omega arith))
