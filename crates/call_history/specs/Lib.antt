@@ -1,6 +1,10 @@
 -- Whole histories: definitions first, then the theorems.
 pub mod History
+pub mod HistoryRuns
+pub mod TapeRuns
 pub mod Words
+pub mod HistoryRunsLaws
+pub mod TapeRunsLaws
 pub mod CallKeeps
 pub mod NextSheet
 pub mod Refusals

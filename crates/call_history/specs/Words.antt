@@ -3,7 +3,7 @@ use mathlib.Core.Path.{_≡_, refl}
 use mathlib.Core.Logic.{_≢_}
 use mathlib.Core.List.{List, [], _∷_}
 use Prim.Native.Nat.{ℕ}
-use Rattle.draw_shares.specs.Program.{Program, done}
+use Rattle.draw_shares.specs.Program.{Program}
 use Rattle.draw_shares.specs.Tape.{Ran, ran, ended, runAt, facesOn}
 use Rattle.draw_shares.specs.TapeLaws.{run-done, run-follows}
 use Rattle.draw_shares.specs.Course.{Follows}
@@ -17,22 +17,29 @@ use Rattle.call_history.specs.History.{runCalls, SentTo, storeAfter, las
 
 module _ (kind : Kind) where
   -- One call: its program run on its tape ends with the store of its outcome, unless it returns 7.
+  pub call-ends : (call : CallFor kind) (tape : List ℕ) (store : StoreFor kind) (output : List ℕ)
+      → outcome kind call tape store output .answer ≢ Refused TapeEnded
+      → (next : ℕ) × (runAt (callProgram kind call store) tape 0 ≡ ran (outcome kind call tape store output .store) next)
+  unfolding outcome callProgram finished refused callProgramBy outcomeBy
+  call-ends call tape store output = go (decision kind call store)
+    where
+      ran-ends : (p : Program (StoreFor kind)) (list : List ℕ) (r : Ran (StoreFor kind)) → runAt p tape 0 ≡ r
+          → finished kind call list store output r .answer ≢ Refused TapeEnded
+          → (next : ℕ) × (runAt p tape 0 ≡ ran (finished kind call list store output r .store) next)
+      ran-ends p list (ran store′ words) e ne = (words, e)
+      ran-ends p list ended e ne = absurd (ne refl)
+
+      go : (d : Decision) → outcomeBy kind call tape store output d .answer ≢ Refused TapeEnded
+          → (next : ℕ) × (runAt (callProgramBy kind call store d) tape 0 ≡ ran (outcomeBy kind call tape store output d .store) next)
+      go (refuse cause) ne = (0, run-done store tape 0)
+      go (accept before) ne = ran-ends (effect kind call before store) (before .list) (runAt (effect kind call before store) tape 0) refl ne
+
   pub call-follows : (call : CallFor kind) (tape : List ℕ) (store : StoreFor kind) (output : List ℕ)
       → outcome kind call tape store output .answer ≢ Refused TapeEnded
       → Follows (callProgram kind call store) (facesOn (callProgram kind call store) tape 0) (outcome kind call tape store output .store)
-  unfolding outcome callProgram finished refused callProgramBy outcomeBy
-  call-follows call tape store output = go (decision kind call store)
-    where
-      ran-follows : (p : Program (StoreFor kind)) (list : List ℕ) (r : Ran (StoreFor kind)) → runAt p tape 0 ≡ r
-          → finished kind call list store output r .answer ≢ Refused TapeEnded
-          → Follows p (facesOn p tape 0) (finished kind call list store output r .store)
-      ran-follows p list (ran store′ words) e ne = run-follows p tape 0 store′ words e
-      ran-follows p list ended e ne = absurd (ne refl)
-
-      go : (d : Decision) → outcomeBy kind call tape store output d .answer ≢ Refused TapeEnded
-          → Follows (callProgramBy kind call store d) (facesOn (callProgramBy kind call store d) tape 0) (outcomeBy kind call tape store output d .store)
-      go (refuse cause) ne = run-follows (done store) tape 0 store 0 (run-done store tape 0)
-      go (accept before) ne = ran-follows (effect kind call before store) (before .list) (runAt (effect kind call before store) tape 0) refl ne
+  call-follows call tape store output ne =
+      let ends = call-ends call tape store output ne in
+      run-follows (callProgram kind call store) tape 0 (outcome kind call tape store output .store) (ends .0) (ends .1)
 
   -- All calls, one after the other.
   pub words-decide : (sent : List (SentTo kind)) (store : StoreFor kind) → NoneEnds kind sent store

@@ -1,6 +1,6 @@
 -- A draw among m faces from a tape of words (document 01, "Coins"). Definitions only.
 use mathlib.Core.List.{List, [], _∷_}
-use Prim.Native.Nat.{ℕ, suc, _*_, _/_, _%_, _^_}
+use Prim.Native.Nat.{ℕ, suc, _+_, _*_, _/_, _%_, _^_}
 use lib.ListN.{drop}
 use Rattle.base.specs.Cases.{ifEq, ifLt}
 use Rattle.draw.specs.declared.Drawn.{Drawn}
@@ -36,3 +36,8 @@ faceOf Ended = drawn-face.TapeEnded
 abbrev pub drawnOf : ℕ → DrawnFace → Drawn
 drawnOf after (drawn-face.Face face) = Face face after
 drawnOf after drawn-face.TapeEnded = Ended
+
+-- The same draw with its place moved on by n words.
+abbrev pub moved : ℕ → Drawn → Drawn
+moved n (Face face next) = Face face (n + next)
+moved n Ended = Ended

@@ -1,38 +1,21 @@
 -- Every face has equally many runs of words, for each m and each number of words read.
-use mathlib.Core.Path.{_≡_, refl, ap, ap₂, sym, _∙_, fun-ext}
+use mathlib.Core.Path.{_≡_, refl, ap, ap₂, sym, _∙_}
 use mathlib.Core.Bool.{Bool, false, and-true, and-false}
 use mathlib.Core.Logic.{_≢_, ⊎-elim}
 use mathlib.Core.List.{List, [], _∷_}
 use Prim.Native.Nat.{ℕ, zero, suc, _+_, _*_, _/_, _%_, _<_, _≤_, _^_}
 use native.Mathlib.Omega.{arith}
-use native.Mathlib.Nat.{zero-add, add-zero, add-suc, mul-zero, zero-mul, suc-mul, mul-comm, mul-assoc, div-add-mod, pow-suc, pow-zero, eq-or-lt-of-le}
+use native.Mathlib.Nat.{zero-add, zero-mul, suc-mul, mul-comm, mul-assoc, div-add-mod, pow-suc, pow-zero, eq-or-lt-of-le}
 use borrow.Author.Tests.{eq-eqb, ne-eqb}
 use lib.Arith.{digits-mod}
 use lib.Dec.{eqb, eqb·suc-suc, eqb·zero-suc}
-use Rattle.base.specs.CaseLaws.{eq-or-ne}
+use Rattle.base.specs.CaseLaws.{by-eq}
 use Rattle.draw.specs.Draw.{scan}
-use Rattle.draw.specs.DrawLaws.{scan-nil, scan-take, scan-pass, draw-many}
-use Rattle.draw.specs.Runs.{sumBelow, one, runs, gives, faceRuns}
+use Rattle.draw.specs.DrawLaws.{scan-nil, scan-take, scan-pass, draw-one, draw-many}
+use Rattle.draw.specs.Runs.{sumBelow, one, runs, gives, faceRuns, drawRuns}
+use Rattle.draw.specs.RunsLaws.{sum-cong, sum-const, sum-none, sum-split, runs-cong, runs-none}
 
 -- ---- sums
-
-sum-cong : (n : ℕ) (g h : ℕ → ℕ) → ((i : ℕ) → i < n → g i ≡ h i) → sumBelow n g ≡ sumBelow n h
-unfolding sumBelow
-sum-cong zero g h e = refl
-sum-cong (suc n) g h e = ap₂ _+_ (sum-cong n g h (λ i l. e i (omega arith))) (e n (omega arith))
-
-sum-const : (n c : ℕ) → sumBelow n (λ _. c) ≡ n * c
-unfolding sumBelow
-sum-const zero c = sym (zero-mul c)
-sum-const (suc n) c = rw (suc-mul, sum-const n c)
-
-sum-none : (n : ℕ) (h : ℕ → ℕ) → ((i : ℕ) → i < n → h i ≡ 0) → sumBelow n h ≡ 0
-sum-none n h e = sum-cong n h (λ _. 0) e ∙ sum-const n 0 ∙ mul-zero n
-
-sum-split : (a b : ℕ) (h : ℕ → ℕ) → sumBelow (a + b) h ≡ sumBelow a h + sumBelow b (λ i. h (a + i))
-unfolding sumBelow
-sum-split a zero h = rw (add-zero, add-zero)
-sum-split a (suc b) h = rw (add-suc, sum-split a b h) (omega arith)
 
 -- one number below m is f
 sum-one : (m f : ℕ) → f < m → sumBelow m (λ i. one (eqb i f)) ≡ 1
@@ -59,14 +42,6 @@ sum-mod (suc q) m f l =
     ) (omega arith)
 
 -- ---- runs
-
-runs-cong : (W k : ℕ) (s t : List ℕ → Bool) → ((words : List ℕ) → s words ≡ t words) → runs W k s ≡ runs W k t
-runs-cong W k s t e = ap (runs W k) (fun-ext e)
-
-runs-none : (W k : ℕ) → runs W k (λ _. false) ≡ 0
-unfolding runs one
-runs-none W zero = refl
-runs-none W (suc k) = sum-none W (λ _. runs W k (λ _. false)) (λ _ _. runs-none W k)
 
 -- a scan from a later place is a scan with a later end
 gives-later : (limit m f k : ℕ) (words : List ℕ) (at : ℕ) → gives f (suc k) (scan limit m words (suc at)) ≡ gives f k (scan limit m words at)
@@ -128,16 +103,27 @@ no-runs : (W m f : ℕ) → m ≢ 1 → faceRuns W m f 0 ≡ 0
 unfolding faceRuns runs gives one
 no-runs W m f ne = rw (draw-many W [] 0 m ne, scan-nil (m * (W / m)) m 0)
 
+no-word : (W k : ℕ) → faceRuns W 1 0 (suc k) ≡ 0
+unfolding faceRuns gives
+no-word W k =
+    runs-cong W (suc k) _ (λ _. false) (λ words. rw (draw-one W words 0, eqb·zero-suc k, and-false (eqb 0 0)))
+    ∙ runs-none W (suc k)
+
+-- How many runs each face has, for every m and every number of words.
+pub face-runs-all : (W m f k : ℕ) → f < m → faceRuns W m f k ≡ drawRuns W m k
+unfolding drawRuns faceRuns runs gives one
+face-runs-all W m f zero l =
+    by-eq (λ (n : ℕ). faceRuns W m f 0 ≡ n) m 1 1 0
+    (λ e. let z : f ≡ 0 = omega arith in rw (e, z, draw-one W [] 0))
+    (λ ne. no-runs W m f ne)
+face-runs-all W m f (suc k) l =
+    by-eq (λ (n : ℕ). faceRuns W m f (suc k) ≡ n) m 1 0 ((W % m) ^ k * (W / m))
+    (λ e. let z : f ≡ 0 = omega arith in ap₂ (λ (n g : ℕ). faceRuns W n g (suc k)) e z ∙ no-word W k)
+    (λ ne. face-runs W m f k ne l)
+
 -- Every face has equally many runs of words: for each number W of words, each m and each number k of words read.
 pub fair : (W m f g k : ℕ) → f < m → g < m → faceRuns W m f k ≡ faceRuns W m g k
-fair W m f g k lf lg = ⊎-elim
-    (λ (e : m ≡ 1). ap (λ (h : ℕ). faceRuns W m h k) (omega arith))
-    (λ (ne : m ≢ 1). many ne k)
-    (eq-or-ne m 1)
-  where
-    many : m ≢ 1 → (k : ℕ) → faceRuns W m f k ≡ faceRuns W m g k
-    many ne zero = no-runs W m f ne ∙ sym (no-runs W m g ne)
-    many ne (suc k) = face-runs W m f k ne lf ∙ sym (face-runs W m g k ne lg)
+fair W m f g k lf lg = face-runs-all W m f k lf ∙ sym (face-runs-all W m g k lg)
 
 -- The same of 32-bit words.
 pub fair-32 : (m f g k : ℕ) → f < m → g < m → faceRuns (2 ^ 32) m f k ≡ faceRuns (2 ^ 32) m g k

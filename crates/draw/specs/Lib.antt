@@ -4,5 +4,7 @@ pub mod DrawLaws
 pub mod LongerTapeLaws
 pub mod WordLaws
 pub mod Runs
+pub mod RunsLaws
+pub mod WordsReadLaws
 pub mod Fair
 pub mod Examples

@@ -1,8 +1,9 @@
 -- How many runs of words make a draw read them all and give a face. Definitions only.
 use mathlib.Core.Bool.{Bool, true, false, _&&_}
 use mathlib.Core.List.{List, [], _∷_}
-use Prim.Native.Nat.{ℕ, zero, suc, _+_}
+use Prim.Native.Nat.{ℕ, zero, suc, _+_, _*_, _/_, _%_, _^_}
 use lib.Dec.{eqb}
+use Rattle.base.specs.Cases.{ifEq}
 use Rattle.draw.specs.declared.Drawn.{Drawn}
 use Rattle.draw.specs.declared.Drawn.the-variants.{Face, Ended}
 use Rattle.draw.specs.Draw.{drawFrom}
@@ -30,3 +31,8 @@ gives face place Ended = false
 -- How many runs of k words below W make the draw among m faces read all k and give the face.
 unfoldable pub faceRuns : ℕ → ℕ → ℕ → ℕ → ℕ
 faceRuns W m face k = runs W k (λ words. gives face k (drawFrom W m words 0))
+
+-- The same in numbers, for each of the m faces: a draw among 1 reads no word; any other passes over all words but the last.
+unfoldable pub drawRuns : ℕ → ℕ → ℕ → ℕ
+drawRuns W m zero = ifEq m 1 1 0
+drawRuns W m (suc k) = ifEq m 1 0 ((W % m) ^ k * (W / m))

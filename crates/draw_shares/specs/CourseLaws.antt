@@ -11,7 +11,7 @@ use Rattle.base.specs.ListLaws.{every-append, every-map}
 use Rattle.draw_shares.specs.Program.{Program, done, draw, _>>=_}
 use Rattle.draw_shares.specs.Course.{Follows, Course, concatBelow, before, courses, listed}
 
-every-concat : {B : Type 0} (Q : B → Type 0) (m : ℕ) (h : ℕ → List B) → ((f : ℕ) → f < m → Every Q (h f)) → Every Q (concatBelow m h)
+pub every-concat : {B : Type 0} (Q : B → Type 0) (m : ℕ) (h : ℕ → List B) → ((f : ℕ) → f < m → Every Q (h f)) → Every Q (concatBelow m h)
 unfolding Every concatBelow
 every-concat Q zero h e = tt
 every-concat Q (suc m) h e =

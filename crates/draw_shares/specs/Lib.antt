@@ -3,6 +3,7 @@ pub mod Program
 pub mod Tape
 pub mod Fraction
 pub mod Course
+pub mod CourseRuns
 pub mod Rational
 pub mod Same
 pub mod ProgramLaws
@@ -15,6 +16,9 @@ pub mod Sum
 pub mod SameLaws
 pub mod ShareLaws
 pub mod CourseLaws
+pub mod CourseRunsLaws
+pub mod DecidedLaws
+pub mod BindRunsLaws
 pub mod Reservoir
 pub mod Apart
 pub mod Examples
