@@ -103,7 +103,7 @@ module _ (kind : Kind) (lawful : Lawful kind) (can : Suppliable kind) where
         λ h. can .no-cause call list (sym e ∙ ap some (let same : cause ≡ TapeEnded = cc in same)),
         r .faces-are,
         let there : ran store 0 ≡ ran v (length tape) = sym (run-done store tape 0) ∙ r .ends in
-        let same : store ≡ v = cc in same,
+            let same : store ≡ v = cc in same,
       )
       go (accept before) e tape r = (
         λ h. answer-goes-on call (before .list) (length tape) (rw (r .ends) at h),
