@@ -14,12 +14,12 @@ use Rattle.store_layout.specs.EmptyLaws.{one-empty, empty-slots, empty-counts}
 use Rattle.call_outcomes.specs.declared.Cause.{Cause}
 use Rattle.call_outcomes.specs.declared.Cause.the-variants.{NotASheet}
 use Rattle.call_outcomes.specs.declared.Answer.the-variants.{Checked, Changed, Refused}
-use Rattle.call_outcomes.specs.Kind.{SheetOf, change, ask}
+use Rattle.call_outcomes.specs.Kind.{SheetOf}
 use Rattle.call_outcomes.specs.KindLaws.{decoded-sheet}
 use Rattle.call_outcomes.specs.Causes.{refuse, accept, byLengths, byFound, storeDecision, lookedAt, argumentCause, byArguments, decision}
 use Rattle.call_outcomes.specs.Outcome.{listAfter, refused, outcome}
 use Rattle.call_outcomes.specs.DecisionLaws.{outcome-refused, question-outcome, store-decided, accepted-by}
-use Rattle.call_outcomes.specs.Plain.{RightLengths, foundBy, plainView, plainChange, countOf, questionCause, replyTo, plain, delete, check, changing, storeOf}
+use Rattle.call_outcomes.specs.Plain.{RightLengths, foundBy, plainView, countOf, questionCause, replyTo, plain, delete, check, changing, storeOf}
 use Rattle.call_outcomes.specs.PlainLaws.{lengths-right, edit-list}
 use Rattle.call_outcomes.specs.Clubs.{clubs}
 use Rattle.call_outcomes.specs.ClubsLaws.{clubs-lawful}

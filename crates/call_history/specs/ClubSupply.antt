@@ -1,24 +1,26 @@
 -- Coins can be supplied for every course of a history of the clubs' sheets.
-use mathlib.Core.Path.{_≡_}
+use mathlib.Core.Path.{_≡_, ap}
 use mathlib.Core.Bool.{Bool, true, false}
 use mathlib.Core.Logic.{_≢_}
 use mathlib.Core.List.{List}
 use mathlib.Core.Option.{Option, some, none}
-use Prim.Native.Nat.{ℕ}
+use Prim.Native.Nat.{ℕ, _<_}
 use native.Mathlib.Omega.{arith}
 use Rattle.call_outcomes.specs.declared.Cause.{Cause}
 use Rattle.call_outcomes.specs.declared.Cause.the-variants.{EntryZero, Rank, Full, OutputShort, TapeEnded}
 use Rattle.call_outcomes.specs.declared.Answer.the-variants.{Refused}
+use Rattle.call_outcomes.specs.Returns.{causeNumber}
 use Rattle.call_outcomes.specs.Kind.{clear, change, ask}
 use Rattle.call_outcomes.specs.Causes.{firstOf, argumentCause}
 use Rattle.call_outcomes.specs.Plain.{insertAt, deleteAt, changeCause, Question, readRanks, placeOf, countOf, questionCause, replyTo, plain, Call}
 use Rattle.call_outcomes.specs.Clubs.{clubs}
 use Rattle.call_history.specs.Supply.{Suppliable}
 
-first-not-ended : (test : Bool) (cause : Cause) (later : Option Cause) → cause ≢ TapeEnded → later ≢ some TapeEnded → firstOf test cause later ≢ some TapeEnded
+-- The numbers of the causes of arguments are below 7.
+first-below : (test : Bool) (cause : Cause) (later : Option Cause) → causeNumber cause < 7 → later ≢ some TapeEnded → firstOf test cause later ≢ some TapeEnded
 unfolding firstOf
-first-not-ended true cause later here there e = here (let same : cause ≡ TapeEnded = cc in same)
-first-not-ended false cause later here there e = there e
+first-below true cause later below there e = let same : cause ≡ TapeEnded = cc in omega (arith, below, ap causeNumber same)
+first-below false cause later below there e = there e
 
 none-ended : _≢_ {A = Option Cause} none (some TapeEnded)
 none-ended e = let z : _≡_ {A = ℕ} 0 1 = cc in omega arith
@@ -27,14 +29,10 @@ cause-not-ended : (call : Call) (list : List ℕ) → argumentCause (plain clubs
 unfolding argumentCause changeCause questionCause
 cause-not-ended clear list = none-ended
 cause-not-ended (change (insertAt i e)) list =
-    first-not-ended _ EntryZero _ (λ e. let z : _≡_ {A = ℕ} 0 1 = cc in omega arith)
-    (first-not-ended _ Rank _ (λ e. let z : _≡_ {A = ℕ} 0 1 = cc in omega arith)
-    (first-not-ended _ Full _ (λ e. let z : _≡_ {A = ℕ} 0 1 = cc in omega arith) none-ended))
-cause-not-ended (change (deleteAt i)) list = first-not-ended _ Rank _ (λ e. let z : _≡_ {A = ℕ} 0 1 = cc in omega arith) none-ended
-cause-not-ended (ask (readRanks first last room)) list =
-    first-not-ended _ Rank _ (λ e. let z : _≡_ {A = ℕ} 0 1 = cc in omega arith)
-    (first-not-ended _ OutputShort _ (λ e. let z : _≡_ {A = ℕ} 0 1 = cc in omega arith) none-ended)
-cause-not-ended (ask (placeOf i)) list = first-not-ended _ Rank _ (λ e. let z : _≡_ {A = ℕ} 0 1 = cc in omega arith) none-ended
+    first-below _ EntryZero _ (omega arith) (first-below _ Rank _ (omega arith) (first-below _ Full _ (omega arith) none-ended))
+cause-not-ended (change (deleteAt i)) list = first-below _ Rank _ (omega arith) none-ended
+cause-not-ended (ask (readRanks first last room)) list = first-below _ Rank _ (omega arith) (first-below _ OutputShort _ (omega arith) none-ended)
+cause-not-ended (ask (placeOf i)) list = first-below _ Rank _ (omega arith) none-ended
 cause-not-ended (ask countOf) list = none-ended
 
 reply-not-ended : (q : Question) (list : List ℕ) → replyTo q list ≢ Refused TapeEnded

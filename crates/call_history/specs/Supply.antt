@@ -7,13 +7,13 @@ use mathlib.Core.Option.{Option, some, none}
 use Prim.Native.Nat.{ℕ, _+_, _*_, _≤_, _^_}
 use native.Mathlib.Omega.{arith}
 use lib.ListN.{length}
-use Rattle.draw_shares.specs.Program.{_>>=_, Draws, Ends}
+use Rattle.draw_shares.specs.Program.{_>>=_, Among, Draws, Ends}
 use Rattle.draw_shares.specs.ProgramLaws.{draws-bind, draws-done}
 use Rattle.draw_shares.specs.Tape.{ran, runAt, facesOn}
 use Rattle.draw_shares.specs.TapeLaws.{run-done}
 use Rattle.draw_shares.specs.Course.{Follows}
 use Rattle.draw_shares.specs.CourseLaws.{follows-apart}
-use Rattle.draw_shares.specs.CourseTape.{Decidable, courseTape}
+use Rattle.draw_shares.specs.CourseTape.{courseTape}
 use Rattle.draw_shares.specs.CourseTapeLaws.{Reads, course-supplied}
 use Rattle.tree_rules.specs.Tree.{Shape, IsShape}
 use Rattle.tree_rules.specs.Rules.{update}
@@ -53,12 +53,12 @@ module _ (kind : Kind) (lawful : Lawful kind) (can : Suppliable kind) where
   -- ---- one call
 
   edited-draws : (edit : Edit) (list : List ℕ) (s : Shape) → kind .view .IsList list → IsShape (length list) s
-      → Draws Decidable (update (edit .change) (length list) s) → Draws Decidable (edited (kind .view) edit (record { list = list; shape = s }))
+      → Draws (Among (2 ^ 32)) (update (edit .change) (length list) s) → Draws (Among (2 ^ 32)) (edited (kind .view) edit (record { list = list; shape = s }))
   unfolding edited
   edited-draws edit list s w shape d = draws-bind _ (update (edit .change) (length list) s) _ d (λ t. draws-done _ _)
 
   effect-draws : (list : List ℕ) (s : Shape) (store : StoreFor kind) → kind .view .IsList list → IsShape (length list) s → (call : CallFor kind)
-      → argumentCause kind call list ≡ none → Draws Decidable (effect kind call (record { list = list; shape = s }) store)
+      → argumentCause kind call list ≡ none → Draws (Among (2 ^ 32)) (effect kind call (record { list = list; shape = s }) store)
   unfolding effect argumentCause
   effect-draws list s store w shape clear free = draws-done _ _
   effect-draws list s store w shape (change c) free =
@@ -67,15 +67,15 @@ module _ (kind : Kind) (lawful : Lawful kind) (can : Suppliable kind) where
   effect-draws list s store w shape (ask q) free = draws-done _ _
 
   program-draws : (list : List ℕ) (store : StoreFor kind) → SheetOf (kind .view) list store → (call : CallFor kind)
-      → Draws Decidable (callProgram kind call store)
+      → Draws (Among (2 ^ 32)) (callProgram kind call store)
   unfolding programOn
   program-draws list store w call =
       rw (w .laid, sheet-program kind lawful list (w .shape) (w .is-list) (w .is-shape) call)
       (go (argumentCause kind call list) (effect-draws list (w .shape) _ (w .is-list) (w .is-shape) call))
     where
       go : (found : Option Cause)
-          → (found ≡ none → Draws Decidable (effect kind call (record { list = list; shape = w .shape }) (kind .view .lay list (w .shape))))
-          → Draws Decidable (programOn kind list (w .shape) call found)
+          → (found ≡ none → Draws (Among (2 ^ 32)) (effect kind call (record { list = list; shape = w .shape }) (kind .view .lay list (w .shape))))
+          → Draws (Among (2 ^ 32)) (programOn kind list (w .shape) call found)
       go none h = h refl
       go (some cause) h = draws-done _ _
 

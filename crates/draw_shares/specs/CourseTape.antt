@@ -1,12 +1,8 @@
 -- Words that decide a course. Definitions only.
 use mathlib.Core.List.{List, [], _∷_}
-use Prim.Native.Nat.{ℕ, _<_, _≤_, _^_}
+use Prim.Native.Nat.{ℕ}
 use Rattle.base.specs.Cases.{ifEq}
 use Rattle.draw_shares.specs.Program.{Program, done, draw}
-
--- The draw can be decided by 32-bit words.
-abbrev pub Decidable : ℕ → Type 0
-Decidable m = (0 < m) × (m ≤ 2 ^ 32)
 
 -- The faces as words, but for draws among 1, which read none.
 unfoldable pub courseTape : {A : Type 0} → Program A → List ℕ → List ℕ

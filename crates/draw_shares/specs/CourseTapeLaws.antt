@@ -10,11 +10,11 @@ use Rattle.draw.specs.declared.Drawn.the-variants.{Face}
 use Rattle.draw.specs.Draw.{drawAt}
 use Rattle.draw.specs.DrawLaws.{draw-one}
 use Rattle.draw.specs.WordLaws.{word-decides}
-use Rattle.draw_shares.specs.Program.{Program, done, draw, Draws}
+use Rattle.draw_shares.specs.Program.{Program, done, draw, Among, Draws}
 use Rattle.draw_shares.specs.Tape.{ran, runAt, facesAfter, facesOn}
 use Rattle.draw_shares.specs.TapeLaws.{run-face}
 use Rattle.draw_shares.specs.Course.{Follows}
-use Rattle.draw_shares.specs.CourseTape.{Decidable, courseTape}
+use Rattle.draw_shares.specs.CourseTape.{courseTape}
 
 module _ {A : Type 0} where
   -- The run from this place ends with the value, at the end of the tape, and reads these faces.
@@ -30,7 +30,7 @@ module _ {A : Type 0} where
     faces-are = rw (e, r .faces-are);
   }
 
-  course-read : (p : Program A) (faces : List ℕ) (a : A) → Draws Decidable p → Follows p faces a → (before : List ℕ)
+  course-read : (p : Program A) (faces : List ℕ) (a : A) → Draws (Among (2 ^ 32)) p → Follows p faces a → (before : List ℕ)
       → Reads p (before ++ courseTape p faces) (length before) faces a
   unfolding Draws Follows courseTape drawAt runAt facesOn
   course-read (done b) [] a d h before = record { ends = rw (append-nil before) (ap (λ (x : A). ran x (length before)) h); faces-are = refl }
@@ -58,5 +58,5 @@ module _ {A : Type 0} where
       one-more = omega (arith, length-append before (f ∷ []))
 
   -- The words of its tape decide a course.
-  pub course-supplied : (p : Program A) (faces : List ℕ) (a : A) → Draws Decidable p → Follows p faces a → Reads p (courseTape p faces) 0 faces a
+  pub course-supplied : (p : Program A) (faces : List ℕ) (a : A) → Draws (Among (2 ^ 32)) p → Follows p faces a → Reads p (courseTape p faces) 0 faces a
   course-supplied p faces a d h = course-read p faces a d h []

@@ -1,5 +1,5 @@
 -- Programs that draw faces and end with a value. Definitions only.
-use Prim.Native.Nat.{ℕ, _<_}
+use Prim.Native.Nat.{ℕ, _<_, _≤_}
 
 infixl 30 _>>=_
 -- A program ends with a value, or draws among m faces and goes on by the face, which is below m.
@@ -11,6 +11,10 @@ pub data Program (A : Type 0) : Type 0 where
 unfoldable pub _>>=_ : {A B : Type 0} → Program A → (A → Program B) → Program B
 _>>=_ (done a) k = k a
 _>>=_ (draw m p) k = draw m (λ face. p face >>= k)
+
+-- Among 1 to W faces: words below W can decide such a draw.
+abbrev pub Among : ℕ → ℕ → Type 0
+Among W m = (0 < m) × (m ≤ W)
 
 module _ {A : Type 0} where
   -- P holds of the number of faces of every draw that can come.

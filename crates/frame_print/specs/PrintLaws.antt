@@ -91,7 +91,6 @@ pub record LeafNumbers (store : Store) (s leaves : ℕ) : Type 0 where
   pub leaves-are : leaves ≡ 2 ^ height (getD (store .counts) 0 0)
   pub slots-fit : leaves * s ≤ length (store .slots)
   pub counts-fit : 2 * leaves ≤ length (store .counts)
-  pub ranges-fit : 2 * 2 ^ height (getD (store .counts) 0 0) ≤ length (store .counts)
   pub output-fits : leaves * (11 + 16 * s) ≤ leavesMost store
 
 module _ (store : Store) (sheet : PrintReady store) where
@@ -114,7 +113,6 @@ module _ (store : Store) (sheet : PrintReady store) where
         leaves-are = two;
         slots-fit = fits;
         counts-fit = few;
-        ranges-fit = sheet .counts-fit;
         output-fits = omega (arith, fits, few);
       }
 

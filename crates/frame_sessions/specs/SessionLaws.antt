@@ -1,22 +1,19 @@
 -- The store after a session is the last store of the calls that its frames ask; every word that is brought is read at most once, in order.
-use mathlib.Core.Path.{_≡_, refl, sym, ap, ap₂, _∙_}
+use mathlib.Core.Path.{_≡_, refl, sym, ap, _∙_}
 use mathlib.Core.Logic.{⊎-elim}
 use mathlib.Core.List.{List, [], _∷_, _++_, append-nil, append-assoc}
 use Prim.Native.Nat.{ℕ, zero, suc, _+_, _-_, _≤_, _<_}
 use native.Mathlib.Nat.{sub-zero, not-suc-le-zero}
 use native.Mathlib.Omega.{arith}
-use lib.ListN.{length, take, drop, replicate, length-drop, length-append, length-replicate, take-append-drop}
+use lib.ListN.{length, take, drop, replicate, length-drop, length-append, take-append-drop}
 use lib.Seq.{length-take-le, take-nil, take-all, take-append-le, take-append-add}
 use Rattle.base.specs.CaseLaws.{by-lt, ifLt-yes, ifLt-no, lt-or-ge}
-use Rattle.store_layout.specs.Layout.{Store}
 use Rattle.call_outcomes.specs.Kind.{Kind, StoreFor}
-use Rattle.call_outcomes.specs.Returns.{returned}
-use Rattle.call_outcomes.specs.Outcome.{outcome}
 use Rattle.call_outcomes.specs.Plain.{insertAt, deleteAt, plain}
 use Rattle.call_outcomes.specs.Clubs.{clubs}
 use Rattle.call_outcomes.specs.DecisionLaws.{question-keeps}
 use Rattle.call_outcomes.specs.AnswerLaws.{words-within}
-use Rattle.call_history.specs.History.{Sent, SentTo, storeAfter, lastStore}
+use Rattle.call_history.specs.History.{SentTo, storeAfter, lastStore}
 use Rattle.frame_lines.specs.declared.Frame.{Frame}
 use Rattle.frame_lines.specs.declared.Frame.the-variants.{Insert, Delete, Read, Tape, Print, Clear, Place, NoFrame}
 use Rattle.frame_lines.specs.Frame.{frameOf}

@@ -3,7 +3,7 @@ use mathlib.Core.Logic.{_≢_}
 use Prim.Native.Nat.{ℕ, zero, suc, _+_, _-_, _*_, _<_, _≤_}
 use native.Mathlib.Omega.{arith}
 use Rattle.base.specs.CaseLaws.{by-eq, by-lt, by-le}
-use Rattle.draw_shares.specs.Program.{Program, Draws}
+use Rattle.draw_shares.specs.Program.{Program, Among, Draws}
 use Rattle.draw_shares.specs.ProgramLaws.{draws-bind, draws-bind-ends, draws-done}
 use Rattle.tree_sizes.specs.Sizes.{Allowed, height, candidates, windowStart, IsCandidate, Fits}
 use Rattle.tree_sizes.specs.SizeLaws.{candidate-face, candidate-below}
@@ -19,10 +19,6 @@ use Rattle.tree_rules.specs.Moves.{rankNow, Leaves, Inside}
 use Rattle.tree_rules.specs.MoveLaws.{moves}
 use Rattle.tree_rules.specs.ChangeLaws.{right-reach, right-after, right-now, left-reach, left-now}
 use Rattle.tree_rules.specs.ShapeLaws.{step-ends}
-
--- Among 1 to W faces.
-abbrev pub Among : ℕ → ℕ → Type 0
-Among W m = (0 < m) × (m ≤ W)
 
 module _ (W : ℕ) where
   -- ---- the size step

@@ -57,7 +57,7 @@ print-leaves-requires c κs =
     let put = c .before .before .before .before .before .before .before in
     let start = put .before .before .before .before .before .before .before in
     let most = leavesMost (storeOf (now (start .args .slots)) (now (start .args .counts))) in
-    (n .slots-fit, (n .counts-fit, (n .ranges-fit, omega (arith, n .output-fits, wrote-room (put .put-sheet .ensures) 11 most (length-sheet _ _) (omega arith)))))
+    (n .slots-fit, (n .counts-fit, (start .pre .0 .counts-fit, omega (arith, n .output-fits, wrote-room (put .put-sheet .ensures) 11 most (length-sheet _ _) (omega arith)))))
 
 same-length-2 : tie.Need-same-length-2
 same-length-2 c = search needs
