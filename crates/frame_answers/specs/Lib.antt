@@ -3,5 +3,6 @@ pub mod Step
 pub mod Gives
 pub mod Fits
 pub mod StepLaws
+pub mod ReadyLaws
 pub mod CountLaws
 pub mod WritableLaws

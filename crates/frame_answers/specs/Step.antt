@@ -1,6 +1,7 @@
 -- What the program answers to a line, and what it keeps (document 01, "Frames"). Definitions only.
+use mathlib.Core.Path.{_≡_}
 use mathlib.Core.List.{List, [], _∷_, _++_}
-use Prim.Native.Nat.{ℕ, zero, suc, _+_, _-_, _*_, _^_}
+use Prim.Native.Nat.{ℕ, zero, suc, _+_, _-_, _*_, _^_, _≤_}
 use lib.ListN.{length, getD, take, drop, replicate}
 use Rattle.base.specs.Cases.{ifEq, ifLt}
 use Rattle.tree_sizes.specs.Sizes.{height, leafSlots}
@@ -25,6 +26,11 @@ pub record Kept : Type 0 where
   pub store : Store
   pub tape : List ℕ
   pub waiting : ℕ
+
+-- The tape has room for the words that may wait, and no more wait.
+pub record TapeReady (k : Kept) : Type 0 where
+  pub room : length (k .tape) ≡ mostWaiting
+  pub few : k .waiting ≤ mostWaiting
 
 -- The lines that answer a line, and what is kept after it.
 pub record Answered : Type 0 where
@@ -138,12 +144,20 @@ answerTo (Place rank) line k =
     keeping k (placeLine (outcome (plain clubs) (place rank) [] (k .store) []) (k .store))
 answerTo NoFrame line k = keeping k (refusal 255 cause.NoFrame (k .store))
 
--- What lines, one after the other, are answered by.
+-- What is kept after a line.
+abbrev pub keptBy : List ℕ → Kept → Kept
+keptBy line k = answerTo (frameOf line) line k .kept
+
+-- What lines, one after the other, are answered by, and what is kept after them.
 unfoldable pub answersTo : List (List ℕ) → Kept → List ℕ
 answersTo [] k = []
 answersTo (line ∷ lines) k =
     let a = answerTo (frameOf line) line k in
     bytesOf (a .replies) ++ answersTo lines (a .kept)
+
+unfoldable pub keptAfter : List (List ℕ) → Kept → Kept
+keptAfter [] k = k
+keptAfter (line ∷ lines) k = keptAfter lines (keptBy line k)
 
 -- The length of the longest answer: a print of 128 leaves of 33 slots.
 abbrev pub longest : ℕ

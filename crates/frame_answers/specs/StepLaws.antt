@@ -4,7 +4,8 @@ use mathlib.Core.Logic.{_≢_}
 use mathlib.Core.List.{List, [], _∷_, _++_, append-nil}
 use Prim.Native.Nat.{ℕ, _+_, _≤_, _<_}
 use native.Mathlib.Nat.{zero-add}
-use lib.ListN.{length, getD, take, drop}
+use native.Mathlib.Omega.{arith}
+use lib.ListN.{length, getD, take, drop, length-append}
 use Rattle.base.specs.CaseLaws.{ifEq-yes, ifEq-no, ifLt-yes, ifLt-no}
 use Rattle.store_layout.specs.Layout.{Store}
 use Rattle.call_outcomes.specs.declared.Cause.the-variants as cause
@@ -130,3 +131,23 @@ module _ (line : List ℕ) (k : Kept) (output : List ℕ) where
         let size : _ ≡ length (bytesOf (answerTo (frameOf line) line k .replies)) = g .wrote .end ∙ zero-add _ in
         rw (g .kept, g .wrote .is, size)
         (sym (ifLt-no (length output) longest _ _ l ∙ ifEq-yes (length (k .tape)) mostWaiting _ _ e ∙ ifLt-no mostWaiting (k .waiting) _ _ w))
+
+    -- The other way: what a step leaves is what the answer to its line gives.
+    pub step-gives : k .waiting ≤ mostWaiting → {bytes : ℕ} {kept : Kept} {output′ : List ℕ} → length output′ ≡ length output
+        → record { bytes = bytes; kept = kept; output = output′ } ≡ stepOf line k output
+        → Gives (answerTo (frameOf line) line k) output bytes (kept .waiting) (kept .store) (kept .tape) output′
+    unfolding stepOf handed
+    step-gives w {bytes} {kept} {output′} same is =
+        let given : List ℕ = bytesOf (answerTo (frameOf line) line k .replies) in
+        let done : record { bytes = bytes; kept = kept; output = output′ } ≡ handed (answerTo (frameOf line) line k) output =
+        is ∙ ifLt-no (length output) longest _ _ l ∙ ifEq-yes (length (k .tape)) mostWaiting _ _ e ∙ ifLt-no mostWaiting (k .waiting) _ _ w in
+        let size : bytes ≡ length given = ap (λ (s : Step). s .bytes) done in
+        let whole : output′ ≡ given ++ drop (length given) output = ap (λ (s : Step). s .output) done in
+        record {
+          kept = ap (λ (s : Step). s .kept) done;
+          wrote = record {
+            is = rw (size) whole;
+            end = size ∙ sym (zero-add (length given));
+            room = omega (arith, size, ap length whole, length-append given (drop (length given) output), same);
+          };
+        }

@@ -36,9 +36,13 @@ through (suc turns) chunk from line have =
     ])
     (record { lines = []; line = line; have = have })
 
+-- The lines that a chunk ends from the place `from` on: its length in turns is enough.
+unfoldable pub goneFrom : List ℕ → ℕ → List ℕ → ℕ → Gone
+goneFrom chunk from line have = through (length chunk) chunk from line have
+
 -- The lines given out over chunks, one after the other. At the end of the input the open line is given out if it holds a byte.
 unfoldable pub linesOver : List (List ℕ) → List ℕ → ℕ → List (List ℕ)
 linesOver [] line have = ifEq have 0 [] (take have line ∷ [])
 linesOver (chunk ∷ chunks) line have =
-    let gone = through (length chunk) chunk 0 line have in
+    let gone = goneFrom chunk 0 line have in
     gone .lines ++ linesOver chunks (gone .line) (gone .have)

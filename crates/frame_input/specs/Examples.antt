@@ -4,7 +4,7 @@ use mathlib.Core.Bool.{true, false}
 use mathlib.Core.List.{[], _∷_}
 use Rattle.base.specs.Cases.{ifEq, ifLt}
 use Rattle.frame_input.specs.Lines.{inFront, linesOf, upToLf, hasLf, lengthWithLf, left, behind, collectingOf, collecting}
-use Rattle.frame_input.specs.Chunks.{with, through, linesOver}
+use Rattle.frame_input.specs.Chunks.{with, through, goneFrom, linesOver}
 
 -- ---- lines
 
@@ -59,5 +59,5 @@ number-past = refl
 -- A, B LF LF, nothing, C A B: the first line in two chunks, the last one cut
 chunks-lines : linesOver ((65 ∷ []) ∷ (66 ∷ 10 ∷ 10 ∷ []) ∷ [] ∷ (67 ∷ 65 ∷ 66 ∷ []) ∷ []) (1 ∷ 2 ∷ []) 0
     ≡ (65 ∷ 66 ∷ []) ∷ [] ∷ (67 ∷ 65 ∷ []) ∷ []
-unfolding linesOver through with collecting collectingOf left lengthWithLf upToLf hasLf behind ifEq ifLt
+unfolding linesOver goneFrom through with collecting collectingOf left lengthWithLf upToLf hasLf behind ifEq ifLt
 chunks-lines = refl

@@ -2,5 +2,6 @@
 pub mod Lines
 pub mod Chunks
 pub mod CollectLaws
+pub mod ChunkLaws
 pub mod LineLaws
 pub mod Examples

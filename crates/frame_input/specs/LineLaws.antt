@@ -12,7 +12,7 @@ use lib.Seq.{take-at, drop-drop, drop-length, take-nil}
 use Rattle.base.specs.CaseLaws.{ifEq-yes, ifEq-no, eq-or-ne, by-lt}
 use Rattle.frame_input.specs.Lines.{Outcome, inFront, linesOf, upToLf, hasLf, lengthWithLf, left, behind, collectingOf, collecting}
 use Rattle.frame_input.specs.CollectLaws.{upTo-lf, upTo-other, has-lf, has-other, length-lf, length-other, next-further}
-use Rattle.frame_input.specs.Chunks.{joined, Gone, with, through, linesOver}
+use Rattle.frame_input.specs.Chunks.{joined, Gone, with, through, goneFrom, linesOver}
 
 -- ---- lines
 
@@ -208,14 +208,14 @@ holds-some (suc w) b p room e = omega (arith, e)
 -- The lines over chunks, where the line buffer holds the bytes p of an open line: those of p with the chunks behind it.
 over-open : (chunks : List (List ℕ)) {w : ℕ} (p line : List ℕ) (have : ℕ) → 0 < w → Holds w p line have
     → linesOver chunks line have ≡ map (take w) (linesOf (p ++ joined chunks))
-unfolding linesOver joined linesOf
+unfolding linesOver joined linesOf goneFrom
 over-open [] {w} [] line have room s = ifEq-yes have 0 _ _ (s .number ∙ rw (take-nil {A = ℕ} w))
 over-open [] {w} (b ∷ p) line have room s =
     ifEq-no have 0 _ _ (λ e. holds-some w b p room (sym (s .number) ∙ e))
     ∙ rw (append-nil p, s .front)
     (sym (ap (map (take w)) (lines-last b p (s .plain))))
 over-open (chunk ∷ chunks) {w} p line have room s =
-    let gone = through (length chunk) chunk 0 line have in
+    let gone = goneFrom chunk 0 line have in
     let r = gone-through (length chunk) chunk (joined chunks) 0 s (omega arith) in
     ap (λ (lines : List (List ℕ)). gone .lines ++ lines) (over-open chunks (r .open-part) (gone .line) (gone .have) room (r .holds))
     ∙ sym (r .lines)

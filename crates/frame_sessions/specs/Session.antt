@@ -1,8 +1,7 @@
 -- A session of the program: lines, one after the other. Definitions only.
 use mathlib.Core.List.{List, [], _∷_, _++_}
-use Prim.Native.Nat.{ℕ, _+_, _≤_}
-use mathlib.Core.Path.{_≡_}
-use lib.ListN.{length, take, replicate}
+use Prim.Native.Nat.{ℕ, _+_}
+use lib.ListN.{take, replicate}
 use Rattle.base.specs.Cases.{ifLt}
 use Rattle.call_outcomes.specs.Kind.{clear}
 use Rattle.call_outcomes.specs.Returns.{returned}
@@ -14,16 +13,11 @@ use Rattle.frame_lines.specs.declared.Frame.{Frame}
 use Rattle.frame_lines.specs.declared.Frame.the-variants.{Insert, Delete, Read, Tape, Print, Clear, Place, NoFrame}
 use Rattle.frame_lines.specs.Frame.{frameOf}
 use Rattle.frame_tape.specs.Tape.{mostWaiting, lineWords}
-use Rattle.frame_answers.specs.Step.{Kept, answerTo}
+use Rattle.frame_answers.specs.Step.{Kept, keptBy}
 
 -- The words that wait.
 abbrev pub waitingWords : Kept → List ℕ
 waitingWords k = take (k .waiting) (k .tape)
-
--- The tape has room for the words that may wait, and no more wait.
-pub record TapeReady (k : Kept) : Type 0 where
-  pub room : length (k .tape) ≡ mostWaiting
-  pub few : k .waiting ≤ mostWaiting
 
 -- The call that a frame asks, as it is made then; a tape line asks none, and neither does a line that is no frame.
 unfoldable pub sentBy : Frame → Kept → List (Sent Call)
@@ -57,14 +51,6 @@ readBy Print k = []
 readBy Clear k = []
 readBy (Place rank) k = []
 readBy NoFrame k = []
-
--- What is kept after a line, and after lines.
-abbrev pub keptBy : List ℕ → Kept → Kept
-keptBy line k = answerTo (frameOf line) line k .kept
-
-unfoldable pub keptAfter : List (List ℕ) → Kept → Kept
-keptAfter [] k = k
-keptAfter (line ∷ lines) k = keptAfter lines (keptBy line k)
 
 -- The calls of a session, and the words that its lines bring and its calls read, in order.
 unfoldable pub sentOver : List (List ℕ) → Kept → List (Sent Call)

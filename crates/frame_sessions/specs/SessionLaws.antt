@@ -19,8 +19,9 @@ use Rattle.frame_lines.specs.declared.Frame.the-variants.{Insert, Delete, Read,
 use Rattle.frame_lines.specs.Frame.{frameOf}
 use Rattle.frame_tape.specs.Tape.{mostWaiting, readOff, lineWords}
 use Rattle.frame_tape.specs.TapeLaws.{length-readOff, length-words}
-use Rattle.frame_answers.specs.Step.{Kept, Answered, keeping, changedBy, changed, cleared, taped, answerTo}
-use Rattle.frame_sessions.specs.Session.{waitingWords, TapeReady, sentBy, broughtBy, readBy, keptBy, keptAfter, sentOver, broughtOver, readOver}
+use Rattle.frame_answers.specs.Step.{Kept, TapeReady, Answered, keeping, changedBy, changed, cleared, taped, answerTo, keptBy, keptAfter}
+use Rattle.frame_answers.specs.ReadyLaws.{waiting-within, read-within, tape-ready}
+use Rattle.frame_sessions.specs.Session.{waitingWords, sentBy, broughtBy, readBy, sentOver, broughtOver, readOver}
 
 -- ---- the store
 
@@ -51,10 +52,9 @@ session-store (line ∷ lines) k =
 
 -- ---- the words
 
--- What a line brings goes behind the words that wait, and what its call reads leaves them at their front; the tape stays ready.
-record Passed (frame : Frame) (line : List ℕ) (k after : Kept) : Type 0 where
-  words : readBy frame k ++ waitingWords after ≡ waitingWords k ++ broughtBy frame line k
-  ready : TapeReady after
+-- What a line brings goes behind the words that wait, and what its call reads leaves them at their front.
+unfoldable Passed : Frame → List ℕ → Kept → Kept → Type 0
+Passed frame line k after = readBy frame k ++ waitingWords after ≡ waitingWords k ++ broughtBy frame line k
 
 take-of-drop : (n w : ℕ) (xs : List ℕ) → n ≤ w → take (w - n) (drop n xs) ≡ drop n (take w xs)
 take-of-drop zero w xs l = rw (sub-zero w)
@@ -72,42 +72,28 @@ read-passed n waiting tape l m = ap (λ (xs : List ℕ). take n (take waiting ta
     rest : take (waiting - n) (drop n tape ++ replicate n 0) ≡ drop n (take waiting tape)
     rest = take-append-le (waiting - n) (drop n tape) (replicate n 0) (omega (arith, length-drop n tape)) ∙ take-of-drop n waiting tape l
 
-kept-words : (frame : Frame) (line : List ℕ) (k : Kept) → TapeReady k → readBy frame k ≡ [] → broughtBy frame line k ≡ [] → Passed frame line k k
-kept-words frame line k t none still = record { words = rw (none, still) (sym (append-nil (waitingWords k))); ready = t }
-
 -- a call that reads n of the words that wait
 change-passed : (n : ℕ) (k : Kept) → TapeReady k → n ≤ length (waitingWords k)
-    → (take n (waitingWords k) ++ take (k .waiting - n) (readOff n (k .tape)) ≡ waitingWords k) × (length (readOff n (k .tape)) ≡ mostWaiting) × (k .waiting - n ≤ mostWaiting)
+    → take n (waitingWords k) ++ take (k .waiting - n) (readOff n (k .tape)) ≡ waitingWords k ++ []
 change-passed n k t l =
-    let few : k .waiting ≤ length (k .tape) = omega (arith, t .room, t .few) in
-    let within : n ≤ k .waiting = omega (arith, length-take-le (k .waiting) (k .tape) few) in (
-      read-passed n (k .waiting) (k .tape) within few,
-      length-readOff n (k .tape) (omega arith) ∙ t .room,
-      omega (arith, t .few),
-    )
+    read-passed n (k .waiting) (k .tape) (read-within t n l) (waiting-within t) ∙ sym (append-nil (waitingWords k))
 
 tape-passed : (line : List ℕ) (words : ℕ) (k : Kept) → TapeReady k → Passed (Tape words) line k (taped line words k .kept)
-unfolding taped keeping readBy broughtBy
+unfolding Passed taped keeping readBy broughtBy
 tape-passed line words k t =
     ⊎-elim
     (λ (full : mostWaiting < k .waiting + words).
-    rw (ifLt-yes mostWaiting (k .waiting + words) _ _ full)
-    record { words = rw (ifLt-yes mostWaiting (k .waiting + words) _ _ full) (sym (append-nil (waitingWords k))); ready = t })
+    rw (ifLt-yes mostWaiting (k .waiting + words) _ _ full, ifLt-yes mostWaiting (k .waiting + words) _ _ full) (sym (append-nil (waitingWords k))))
     (λ (room : k .waiting + words ≤ mostWaiting).
-    rw (ifLt-no mostWaiting (k .waiting + words) _ _ room)
-    record { words = rw (ifLt-no mostWaiting (k .waiting + words) _ _ room) (behind room); ready = record { room = still room; few = room } })
+    rw (ifLt-no mostWaiting (k .waiting + words) _ _ room, ifLt-no mostWaiting (k .waiting + words) _ _ room) behind)
     (lt-or-ge mostWaiting (k .waiting + words))
   where
-    few : k .waiting ≤ length (k .tape)
-    few = omega (arith, t .room, t .few)
-
     front : length (take (k .waiting) (k .tape)) ≡ k .waiting
-    front = length-take-le (k .waiting) (k .tape) few
+    front = length-take-le (k .waiting) (k .tape) (waiting-within t)
 
-    behind : k .waiting + words ≤ mostWaiting
-        → take (k .waiting + words) (take (k .waiting) (k .tape) ++ (lineWords line 0 words ++ drop (k .waiting + words) (k .tape)))
+    behind : take (k .waiting + words) (take (k .waiting) (k .tape) ++ (lineWords line 0 words ++ drop (k .waiting + words) (k .tape)))
         ≡ take (k .waiting) (k .tape) ++ lineWords line 0 words
-    behind room =
+    behind =
         let first : k .waiting + words ≡ length (take (k .waiting) (k .tape)) + words = omega (arith, front) in
         ap (λ (n : ℕ). take n (take (k .waiting) (k .tape) ++ (lineWords line 0 words ++ drop (k .waiting + words) (k .tape)))) first
         ∙ take-append-add (take (k .waiting) (k .tape)) (lineWords line 0 words ++ drop (k .waiting + words) (k .tape)) words
@@ -115,43 +101,25 @@ tape-passed line words k t =
         (take-append-le words (lineWords line 0 words) (drop (k .waiting + words) (k .tape)) (omega (arith, length-words line 0 words))
         ∙ take-all words (lineWords line 0 words) (omega (arith, length-words line 0 words)))
 
-    still : k .waiting + words ≤ mostWaiting
-        → length (take (k .waiting) (k .tape) ++ (lineWords line 0 words ++ drop (k .waiting + words) (k .tape))) ≡ mostWaiting
-    still room =
-        omega (
-          arith,
-          front,
-          length-append (take (k .waiting) (k .tape)) (lineWords line 0 words ++ drop (k .waiting + words) (k .tape)),
-          length-append (lineWords line 0 words) (drop (k .waiting + words) (k .tape)),
-          length-words line 0 words,
-          length-drop (k .waiting + words) (k .tape),
-          t .room,
-        )
-
 passed : (frame : Frame) (line : List ℕ) (k : Kept) → TapeReady k → Passed frame line k (answerTo frame line k .kept)
-unfolding answerTo changed changedBy keeping cleared readBy broughtBy
-passed (Insert rank entry) line k t =
-    let p = change-passed _ k t (words-within (plain clubs) (insertAt rank entry) (waitingWords k) (k .store) []) in
-    record { words = p .0 ∙ sym (append-nil (waitingWords k)); ready = record { room = p .1; few = p .2 } }
-passed (Delete rank) line k t =
-    let p = change-passed _ k t (words-within (plain clubs) (deleteAt rank) (waitingWords k) (k .store) []) in
-    record { words = p .0 ∙ sym (append-nil (waitingWords k)); ready = record { room = p .1; few = p .2 } }
-passed (Read first last) line k t = kept-words (Read first last) line k t refl refl
+unfolding Passed answerTo changed changedBy keeping cleared readBy broughtBy
+passed (Insert rank entry) line k t = change-passed _ k t (words-within (plain clubs) (insertAt rank entry) (waitingWords k) (k .store) [])
+passed (Delete rank) line k t = change-passed _ k t (words-within (plain clubs) (deleteAt rank) (waitingWords k) (k .store) [])
+passed (Read first last) line k t = sym (append-nil (waitingWords k))
 passed (Tape words) line k t = tape-passed line words k t
-passed Print line k t = kept-words Print line k t refl refl
-passed Clear line k t = record { words = sym (append-nil (waitingWords k)); ready = record { room = t .room; few = t .few } }
-passed (Place rank) line k t = kept-words (Place rank) line k t refl refl
-passed NoFrame line k t = kept-words NoFrame line k t refl refl
+passed Print line k t = sym (append-nil (waitingWords k))
+passed Clear line k t = sym (append-nil (waitingWords k))
+passed (Place rank) line k t = sym (append-nil (waitingWords k))
+passed NoFrame line k t = sym (append-nil (waitingWords k))
 
 -- The words that the calls read, and then those that wait, are those that waited and then those that the lines brought: each is read once.
 pub words-once : (lines : List (List ℕ)) (k : Kept) → TapeReady k
     → readOver lines k ++ waitingWords (keptAfter lines k) ≡ waitingWords k ++ broughtOver lines k
-unfolding readOver broughtOver keptAfter
+unfolding readOver broughtOver keptAfter Passed
 words-once [] k t = sym (append-nil (waitingWords k))
 words-once (line ∷ lines) k t =
-    let p = passed (frameOf line) line k t in
     append-assoc (readBy (frameOf line) k) (readOver lines (keptBy line k)) (waitingWords (keptAfter lines (keptBy line k)))
-    ∙ ap (λ (xs : List ℕ). readBy (frameOf line) k ++ xs) (words-once lines (keptBy line k) (p .ready))
+    ∙ ap (λ (xs : List ℕ). readBy (frameOf line) k ++ xs) (words-once lines (keptBy line k) (tape-ready (frameOf line) line k t))
     ∙ sym (append-assoc (readBy (frameOf line) k) (waitingWords (keptBy line k)) (broughtOver lines (keptBy line k)))
-    ∙ ap (λ (xs : List ℕ). xs ++ broughtOver lines (keptBy line k)) (p .words)
+    ∙ ap (λ (xs : List ℕ). xs ++ broughtOver lines (keptBy line k)) (passed (frameOf line) line k t)
     ∙ append-assoc (waitingWords k) (broughtBy (frameOf line) line k) (broughtOver lines (keptBy line k))

@@ -1,4 +1,3 @@
--- One step of the program on a line: its bounds, and the step that C programs make.
-pub mod StepBounds
+-- The step that C programs make.
 pub mod FrameStep
 pub mod FrameStepLaws

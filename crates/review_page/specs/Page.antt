@@ -32,8 +32,8 @@ use Rattle.call_history.specs.ClubSupply.{clubs-suppliable}
 use Rattle.call_history.specs.Clause as clause
 use Rattle.call_history.specs.ClubSheets as sheets
 use Rattle.call_history.specs.ClubSheets.{ClubSheet}
-use Rattle.frame_answers.specs.Step.{Kept}
-use Rattle.frame_sessions.specs.Session.{waitingWords, TapeReady, keptAfter, sentOver, broughtOver, readOver}
+use Rattle.frame_answers.specs.Step.{Kept, TapeReady, keptAfter}
+use Rattle.frame_sessions.specs.Session.{waitingWords, sentOver, broughtOver, readOver}
 use Rattle.frame_sessions.specs.SessionLaws as session
 
 -- ---- histories and shares

@@ -1,4 +1,2 @@
--- What the program holds, and what its parts come to together.
-pub mod Held
-pub mod AnswerLaws
-pub mod OutputLaws
+-- What the program holds.
+pub mod Within

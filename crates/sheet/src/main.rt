@@ -1,14 +1,12 @@
 // The program `sheet`: reads frames from standard input, a line each, and answers them on standard output.
-ghost use Prim.Native.Nat.{_+_, _<_, _≤_};
-ghost use lib.ListN.{length};
-ghost use Rattle.frame_answers.specs.Step.{longest};
-ghost use Rattle.frame_tape.specs.Tape.{mostWaiting};
-ghost use Rattle.sheet.specs.Held.{lineRoom, outputRoom, Held};
-use frame_answers::Stepped;
-use frame_input::Collected;
-
-// The longest answer, a print of the largest sheet, has so many bytes.
-const LONGEST: usize = 69012;
+ghost use mathlib.Core.Path.{_≡_};
+ghost use mathlib.Core.Bool.{false};
+ghost use Prim.Native.Nat.{_<_, _≤_};
+ghost use lib.ListN.{length, take};
+ghost use Rattle.call_outcomes.specs.Plain.{storeOf};
+ghost use Rattle.frame_answers.specs.Gives.{keptOf};
+ghost use Rattle.frame_chunks.specs.Chunk.{standing, PassesChunk};
+ghost use Rattle.sheet.specs.Within.{Within};
 
 // The slots of the store.
 const SLOTS: usize = 4224;
@@ -28,11 +26,10 @@ const INPUT: usize = 65536;
 // The output has room for so many bytes.
 const OUTPUT: usize = 262144;
 
-// How many bytes of the line that is still open, words of the tape and bytes of answers are held, and whether a write has failed.
+// How many bytes of the line that is still open and words of the tape are held, and whether a write has failed.
 struct State {
     have: usize,
     waiting: usize,
-    at: usize,
     failed: bool,
 }
 
@@ -42,104 +39,14 @@ struct Chunk {
     last: bool,
 }
 
-// Writes the answers that are held.
-fn flush(output: &[u8], state: State) -> State
-    requires { ⌜ state .at ≤ length (now output) ⌝ }
-    ensures { λ r. ⌜ (r .have ≤ state .have) × (r .at ≤ 0) × (r .waiting ≤ state .waiting) ⌝ }
+// Writes the first n bytes of the output, and tells whether they are written.
+fn write_front(output: &[u8], n: usize) -> bool
+    requires { ⌜ n ≤ length (now output) ⌝ }
 {
-    let at = state.at;
-    let is_written = io::write_all(libc::STDOUT_FILENO, &output[..at]);
-    if is_written {
-        return State {
-            have: state.have,
-            waiting: state.waiting,
-            at: 0,
-            failed: state.failed,
-        };
-    }
-    State {
-        have: state.have,
-        waiting: state.waiting,
-        at: 0,
-        failed: true,
-    }
+    io::write_all(libc::STDOUT_FILENO, &output[..n])
 }
 
-// Writes the answers that are held if the longest one might not fit behind them.
-fn make_room(output: &[u8; OUTPUT], state: State) -> State
-    requires { ⌜ Held state ⌝ }
-    ensures { λ r. ⌜ Held r × (r .at + longest ≤ outputRoom) ⌝ }
-{
-    if OUTPUT - state.at < LONGEST {
-        return flush(output, state);
-    }
-    state
-}
-
-// One step of the frames on a line of so many bytes. Its answer, which always has room, goes behind the first `at` bytes of the output.
-fn step(
-    line: &[u8],
-    have: usize,
-    slots: &mut [u64; SLOTS],
-    counts: &mut [u16; COUNTS],
-    tape: &mut [u32; TAPE],
-    waiting: usize,
-    output: &mut [u8],
-    at: usize,
-) -> Stepped
-    requires line { ⌜ have ≤ length (now line) ⌝ }
-    requires words { ⌜ waiting ≤ mostWaiting ⌝ }
-    requires room { ⌜ at + longest ≤ length (now output) ⌝ }
-    ensures { λ r. ⌜ (at + r .bytes ≤ length (now (output .entry))) × (r .waiting ≤ mostWaiting) ⌝ }
-{
-    frames::step(
-        &line[..have],
-        slots,
-        counts,
-        tape,
-        waiting,
-        &mut output[at..],
-    )
-}
-
-// Answers the line that was collected, if it has ended and no write has failed.
-fn answer(
-    collected: Collected,
-    line: &[u8; LINE],
-    slots: &mut [u64; SLOTS],
-    counts: &mut [u16; COUNTS],
-    tape: &mut [u32; TAPE],
-    output: &mut [u8; OUTPUT],
-    state: State,
-) -> State
-    requires collected { ⌜ collected .have ≤ lineRoom ⌝ }
-    requires held { ⌜ Held state ⌝ }
-    ensures { λ r. ⌜ Held r ⌝ }
-{
-    let have = collected.have;
-    if !collected.ended {
-        return State {
-            have: have,
-            waiting: state.waiting,
-            at: state.at,
-            failed: state.failed,
-        };
-    }
-    let room = make_room(output, state);
-    if room.failed {
-        return room;
-    }
-    let at = room.at;
-    let stepped = step(line, have, slots, counts, tape, room.waiting, output, at);
-    State {
-        have: 0,
-        waiting: stepped.waiting,
-        at: at + stepped.bytes,
-        failed: false,
-    }
-}
-
-// Answers the lines that end in the first n bytes of the input, and writes the answers.
+// Answers the lines that end in the first n bytes of the input, and writes the answers; stops where a write has failed.
 fn answer_chunk(
     input: &[u8],
     n: usize,
@@ -151,18 +58,36 @@ fn answer_chunk(
     before: State,
 ) -> State
     requires chunk { ⌜ n ≤ length (now input) ⌝ }
-    requires held { ⌜ Held before ⌝ }
-    ensures { λ r. ⌜ Held r ⌝ }
+    requires held { ⌜ Within before ⌝ }
+    ensures { λ r. ⌜ Within r × (r .failed ≡ false → PassesChunk (take n (now (input .entry)))
+        (standing 0 (now (line .entry)) (before .have) (keptOf (storeOf (now (slots .entry)) (now (counts .entry))) (now (tape .entry)) (before .waiting)))
+        (now (line .exit)) (r .have) (keptOf (storeOf (now (slots .exit)) (now (counts .exit))) (now (tape .exit)) (r .waiting))) ⌝ }
 {
     let chunk = &input[..n];
-    let mut state = before;
+    let mut have = before.have;
+    let mut waiting = before.waiting;
     let mut from = 0;
     while from < n {
-        let collected = frame_input::collect(chunk, from, line, state.have);
-        from = collected.next;
-        state = answer(collected, line, slots, counts, tape, output, state);
+        let reached = frame_chunks::answer_lines(
+            chunk, from, line, have, slots, counts, tape, waiting, output,
+        );
+        have = reached.have;
+        waiting = reached.waiting;
+        from = reached.next;
+        let is_written = write_front(output, reached.bytes);
+        if !is_written {
+            return State {
+                have: have,
+                waiting: waiting,
+                failed: true,
+            };
+        }
     }
-    flush(output, state)
+    State {
+        have: have,
+        waiting: waiting,
+        failed: false,
+    }
 }
 
 // Reads a chunk of the input. The end of the input is the last one: the LF that ends a line of `have` bytes, or no byte where none are held.
@@ -214,7 +139,6 @@ fn run(
     let mut state = State {
         have: 0,
         waiting: 0,
-        at: 0,
         failed: false,
     };
     let mut turns = u64::MAX;

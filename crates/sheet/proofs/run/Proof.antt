@@ -1,11 +1,11 @@
 -- `run` meets its contract. The loop's invariant: what is held lies within the buffers.
 use borrow.Author.Needs.{needs}
-use Rattle.sheet.specs.Held.{Held}
+use Rattle.sheet.specs.Within.{Within}
 use Rattle.sheet.proofs.run.Statement.{statement}
 use Rattle.sheet.proofs.run.Tie as tie
 
 abbrev Inv-loop : tie.InvT-loop
-Inv-loop slots₀ counts₀ tape₀ line₀ input₀ output₀ state₀ turns₀ slots counts tape line input output state turns = Held state
+Inv-loop slots₀ counts₀ tape₀ line₀ input₀ output₀ state₀ turns₀ slots counts tape line input output state turns = Within state
 
 abbrev μ-loop : tie.MeasureT-loop
 μ-loop slots₀ counts₀ tape₀ line₀ input₀ output₀ state₀ turns₀ slots counts tape line input output state turns = turns

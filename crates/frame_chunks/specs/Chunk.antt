@@ -1,0 +1,62 @@
+-- What a chunk of the input comes to from a place on. Definitions only.
+use mathlib.Core.Path.{_≡_}
+use mathlib.Core.List.{List, _++_}
+use Prim.Native.Nat.{ℕ, _+_, _≤_}
+use lib.ListN.{length}
+use Rattle.frame_input.specs.Chunks.{goneFrom}
+use Rattle.frame_lines.specs.Frame.{frameOf}
+use Rattle.frame_replies.specs.Reply.{bytesOf}
+use Rattle.frame_replies.specs.Wrote.{Wrote}
+use Rattle.frame_answers.specs.Step.{Kept, TapeReady, answerTo, keptBy, answersTo, keptAfter}
+
+-- Between two lines: the place in the chunk to go on at, the line buffer, the number of bytes that it holds of the line that is still
+-- open, and what the program keeps.
+pub record Standing : Type 0 where
+  pub next : ℕ
+  pub line : List ℕ
+  pub have : ℕ
+  pub kept : Kept
+
+abbrev pub standing : ℕ → List ℕ → ℕ → Kept → Standing
+standing next line have k = record { next = next; line = line; have = have; kept = k }
+
+-- The line buffer has room for the bytes that it holds, and the tape for the words that wait.
+pub record Held (s : Standing) : Type 0 where
+  pub line : s .have ≤ length (s .line)
+  pub tape : TapeReady (s .kept)
+
+-- The bytes that answer the lines that end in a chunk, what is kept after them, and the line buffer with the bytes of the line that is
+-- still open.
+pub record ChunkOutcome : Type 0 where
+  pub answers : List ℕ
+  pub kept : Kept
+  pub line : List ℕ
+  pub have : ℕ
+
+unfoldable pub chunkOutcome : List ℕ → Standing → ChunkOutcome
+chunkOutcome chunk s =
+    let gone = goneFrom chunk (s .next) (s .line) (s .have) in
+    record { answers = answersTo (gone .lines) (s .kept); kept = keptAfter (gone .lines) (s .kept); line = gone .line; have = gone .have }
+
+-- With bytes of answers in front.
+unfoldable pub withAnswers : List ℕ → ChunkOutcome → ChunkOutcome
+withAnswers bytes o = record { answers = bytes ++ o .answers; kept = o .kept; line = o .line; have = o .have }
+
+-- A chunk is passed: from s on it comes to this line buffer, this number of bytes and what is kept.
+pub record PassesChunk (chunk : List ℕ) (s : Standing) (line : List ℕ) (have : ℕ) (k : Kept) : Type 0 where
+  pub line-is : line ≡ chunkOutcome chunk s .line
+  pub have-is : have ≡ chunkOutcome chunk s .have
+  pub kept-is : k ≡ chunkOutcome chunk s .kept
+
+-- A line is answered behind the first `at` bytes of the output, and what is kept follows.
+pub record AnswersLine (line : List ℕ) (k : Kept) (output : List ℕ) (at bytes : ℕ) (k′ : Kept) (output′ : List ℕ) : Type 0 where
+  pub kept : k′ ≡ keptBy line k
+  pub wrote : Wrote output at (bytesOf (answerTo (frameOf line) line k .replies)) output′ (at + bytes)
+
+-- From s to t lines of the chunk are answered behind the first `at` bytes of the output: the bytes written, and then the answers to the
+-- lines that are left, are the answers to the lines that end in the chunk from s on; what the chunk comes to at its end is the same.
+pub record AnswersLines (chunk : List ℕ) (s : Standing) (output : List ℕ) (at : ℕ) (t : Standing) (output′ : List ℕ) (next : ℕ) : Type 0 where
+  pub written : List ℕ
+  pub wrote : Wrote output at written output′ next
+  pub answers : chunkOutcome chunk s ≡ withAnswers written (chunkOutcome chunk t)
+  pub held : Held t
