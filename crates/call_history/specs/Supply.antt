@@ -49,6 +49,13 @@ record Decided (kind : Kind) (call : CallFor kind) (store : StoreFor kind) (tape
   faces-are : facesOn (callProgram kind call store) tape 0 ≡ faces
   store-is : outcome kind call tape store [] .store ≡ v
 
+-- A store of the right lengths is cleared, whatever it holds, and no word is read.
+pub clear-leaves : (kind : Kind) (store : StoreFor kind) → kind .view .rightLengths store ≡ true
+    → (outcome kind clear [] store [] .answer ≡ Cleared) × (outcome kind clear [] store [] .store ≡ kind .view .lay (empty .list) (empty .shape))
+    × (facesOn (callProgram kind clear store) [] 0 ≡ [])
+unfolding outcome callProgram decision lookedAt byLengths byArguments argumentCause outcomeBy callProgramBy effect finished runAt answerOf facesOn
+clear-leaves kind store right = (rw right, rw right, rw right)
+
 module _ (kind : Kind) (lawful : Lawful kind) (can : Suppliable kind) where
   -- ---- one call
 
@@ -134,12 +141,6 @@ module _ (kind : Kind) (lawful : Lawful kind) (can : Suppliable kind) where
 
   -- ---- a history
 
-  cleared : (store : StoreFor kind) → kind .view .rightLengths store ≡ true
-      → (outcome kind clear [] store [] .answer ≡ Cleared) × (outcome kind clear [] store [] .store ≡ kind .view .lay (empty .list) (empty .shape))
-      × (facesOn (callProgram kind clear store) [] 0 ≡ [])
-  unfolding outcome callProgram decision lookedAt byLengths byArguments argumentCause outcomeBy callProgramBy effect finished runAt answerOf facesOn
-  cleared store right = (rw right, rw right, rw right)
-
   empty-sheet : SheetOf (kind .view) [] (kind .view .lay (empty .list) (empty .shape))
   unfolding Ends
   empty-sheet = rw (empty-sheets (kind .view)) at (sheets-end (kind .view) [] (lawful .view .no-entry))
@@ -151,7 +152,7 @@ module _ (kind : Kind) (lawful : Lawful kind) (can : Suppliable kind) where
       × (facesSent kind (clearing kind ∷ sent) store ≡ faces) × (lastStore kind (clearing kind ∷ sent) store ≡ v)
   unfolding history runCalls NoneEnds facesSent lastStore storeAfter clearing _>>=_
   history-supplied calls store right faces v follows =
-      let c = cleared store right in
+      let c = clear-leaves kind store right in
       let start = kind .view .lay (empty .list) (empty .shape) in
       let after : Follows (runCalls kind calls start) faces v = rw (clear-program kind lawful store right, empty-sheets (kind .view)) at follows in
       let s = supplied calls [] start empty-sheet faces v after in (

@@ -75,7 +75,16 @@ fn answer_next(
         };
     }
     let at = before.bytes;
-    let stepped = answer_line(line, collected.have, slots, counts, tape, before.waiting, output, at);
+    let stepped = answer_line(
+        line,
+        collected.have,
+        slots,
+        counts,
+        tape,
+        before.waiting,
+        output,
+        at,
+    );
     Progress {
         next: collected.next,
         have: 0,

@@ -30,7 +30,8 @@ unfolding lastStore
 last-append kind [] ys store = refl
 last-append kind (x ∷ xs) ys store = last-append kind xs ys (storeAfter kind x store)
 
-store-by : (frame : Frame) (line : List ℕ) (k : Kept) → answerTo frame line k .kept .store ≡ lastStore (plain clubs) (sentBy frame k) (k .store)
+-- The store after a frame.
+pub store-by : (frame : Frame) (line : List ℕ) (k : Kept) → answerTo frame line k .kept .store ≡ lastStore (plain clubs) (sentBy frame k) (k .store)
 unfolding answerTo changed changedBy keeping cleared taped sentBy lastStore storeAfter
 store-by (Insert rank entry) line k = refl
 store-by (Delete rank) line k = refl

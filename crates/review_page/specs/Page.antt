@@ -1,12 +1,13 @@
 -- The reviewer's page: what is claimed of the clubs' sheets, a sentence and a theorem each. The definitions that the statements name stand in
--- call_outcomes (Kind, Causes, Outcome, Plain, Clubs), call_history (History) and frame_sessions (Session).
+-- call_outcomes (Kind, Causes, Outcome, Plain, Clubs), call_history (History, TapeRuns), frame_sessions (Session) and frame_chunks (Chunk, Input).
 use mathlib.Core.Path.{_≡_}
 use mathlib.Core.Bool.{true}
 use mathlib.Core.Logic.{_≢_, _↔_}
-use mathlib.Core.List.{List, [], _∷_, _++_}
+use mathlib.Core.List.{List, [], _∷_, _++_, map}
 use mathlib.Core.Option.{some}
-use Prim.Native.Nat.{ℕ}
+use Prim.Native.Nat.{ℕ, _<_}
 use lib.ListN.{length, replicate}
+use Rattle.base.specs.Lists.{total}
 use Rattle.draw_shares.specs.Fraction.{_≐_, whole, unit}
 use Rattle.draw_shares.specs.Course.{Follows, share}
 use Rattle.tree_rules.specs.declared.Change.{Change}
@@ -27,14 +28,21 @@ use Rattle.call_outcomes.specs.LongerTapeLaws as longer
 use Rattle.call_history.specs.History.{history, listAtEnd, SameTable, Sent, clearing, lastStore, NoneEnds, facesSent, callsOf}
 use Rattle.call_history.specs.Shares as shares
 use Rattle.call_history.specs.Refusals as refusals
+use Rattle.call_history.specs.TapeRuns.{tapeRuns, tapesDecide, CallsAmong, callsRuns}
+use Rattle.call_history.specs.TapeRunsLaws as tapes
 use Rattle.call_history.specs.Supply.{history-supplied}
 use Rattle.call_history.specs.ClubSupply.{clubs-suppliable}
 use Rattle.call_history.specs.Clause as clause
 use Rattle.call_history.specs.ClubSheets as sheets
 use Rattle.call_history.specs.ClubSheets.{ClubSheet}
-use Rattle.frame_answers.specs.Step.{Kept, TapeReady, keptAfter}
-use Rattle.frame_sessions.specs.Session.{waitingWords, sentOver, broughtOver, readOver}
+use Rattle.frame_input.specs.Lines.{linesOf}
+use Rattle.frame_input.specs.Chunks.{joined}
+use Rattle.frame_answers.specs.Step.{Kept, TapeReady, answersTo, keptAfter}
+use Rattle.frame_sessions.specs.Session.{waitingWords, zeros, atStart, callsIn, sentOver, broughtOver, readOver, NoneSays07}
 use Rattle.frame_sessions.specs.SessionLaws as session
+use Rattle.frame_sessions.specs.SessionHistory as session-history
+use Rattle.frame_chunks.specs.Input.{inputOutcome}
+use Rattle.frame_chunks.specs.InputLaws as input
 
 -- ---- histories and shares
 
@@ -68,6 +76,19 @@ pub words-decide : (sent : List (Sent Call)) (store : Store) → NoneEnds (plain
     → Follows (history (plain clubs) (callsOf sent) store) (facesSent (plain clubs) (clearing (plain clubs) ∷ sent) store) final
     ↔ (final ≡ lastStore (plain clubs) (clearing (plain clubs) ∷ sent) store)
 words-decide = clause.words
+
+-- The ways to fill the tapes that decide a course of calls, each draw reading its given number of words, are as many as the product over the
+-- draws of the runs of words that one draw has for a face, whatever the faces.
+pub tapes-counted : (calls : List Call) (store : Store) (faces among numbers : List (List ℕ)) → CallsAmong (plain clubs) calls store faces among
+    → tapeRuns (map total numbers) (tapesDecide (plain clubs) calls store faces numbers) ≡ callsRuns among numbers
+tapes-counted = tapes.tape-runs (plain clubs)
+
+-- So of equally many words every course whose draws are among the same numbers is decided in equally many ways.
+pub tapes-fair : (calls calls′ : List Call) (store store′ : Store) (faces faces′ among numbers : List (List ℕ))
+    → CallsAmong (plain clubs) calls store faces among → CallsAmong (plain clubs) calls′ store′ faces′ among
+    → tapeRuns (map total numbers) (tapesDecide (plain clubs) calls store faces numbers)
+    ≡ tapeRuns (map total numbers) (tapesDecide (plain clubs) calls′ store′ faces′ numbers)
+tapes-fair = tapes.tapes-fair (plain clubs) (plain clubs)
 
 -- For every course of a history there are tapes such that no call returns 7 and the words decide this very course.
 pub coins-supplied : (calls : List Call) (store : Store) → RightLengths clubs store → (faces : List ℕ) (v : Store)
@@ -118,6 +139,13 @@ last-deleted = sheets.last-deleted
 
 -- ---- the program
 
+-- However the input is divided into chunks, chunk by chunk the answers to its lines are given, and what is kept at the end is what these
+-- lines leave. A line buffer has more than the 130 bytes of the longest frame. `answer_lines` of frame_chunks is proved to answer a chunk so.
+pub input-answered : (chunks : List (List ℕ)) (line : List ℕ) → 130 < length line → (k : Kept)
+    → (inputOutcome chunks line 0 k .answers ≡ answersTo (linesOf (joined chunks)) k)
+    × (inputOutcome chunks line 0 k .kept ≡ keptAfter (linesOf (joined chunks)) k)
+input-answered = input.chunks-answered
+
 -- The store after the lines is the last store of the calls that their frames ask, each with the tape waiting then.
 pub session-store : (lines : List (List ℕ)) (k : Kept) → keptAfter lines k .store ≡ lastStore (plain clubs) (sentOver lines k) (k .store)
 session-store = session.session-store
@@ -127,3 +155,13 @@ session-store = session.session-store
 pub words-once : (lines : List (List ℕ)) (k : Kept) → TapeReady k
     → readOver lines k ++ waitingWords (keptAfter lines k) ≡ waitingWords k ++ broughtOver lines k
 words-once = session.words-once
+
+-- A session whose answers have no 07 leaves, whatever the words, the store with which the course ends, of the history of the calls that its
+-- lines ask, whose faces the words decide; and a sheet of the list at the end of this history.
+pub session-words : (lines : List (List ℕ)) → NoneSays07 lines atStart → (final : Store)
+    → Follows (history (plain clubs) (callsIn lines) zeros) (facesSent (plain clubs) (clearing (plain clubs) ∷ sentOver lines atStart) zeros) final
+    ↔ (final ≡ keptAfter lines atStart .store)
+session-words = session-history.session-words
+
+pub session-sheet : (lines : List (List ℕ)) → NoneSays07 lines atStart → ClubSheet (listAtEnd (plain clubs) (callsIn lines)) (keptAfter lines atStart .store)
+session-sheet = session-history.session-sheet

@@ -69,7 +69,15 @@ fn answer_chunk(
     let mut from = 0;
     while from < n {
         let reached = frame_chunks::answer_lines(
-            chunk, from, line, have, slots, counts, tape, waiting, output,
+            chunk,
+            from,
+            line,
+            have,
+            slots,
+            counts,
+            tape,
+            waiting,
+            output,
         );
         have = reached.have;
         waiting = reached.waiting;

@@ -18,9 +18,10 @@ same-length c = search needs
 returns : tie.Need-returns
 returns c =
     let k = c .before .before .before .before .collect in
-    let start = c .before .before .before .before .before .before .before .before .before .before .before .before in
-    (answers-open (start .pre .0) (start .pre .1 .0) (k .result) _ (k .kept .1 .1 .0) (k .ensures) (not-true _ (c .if1 .taken)) (omega (arith, start .pre .1 .1)),
-    collected-further _ _ _ _ (k .result) _ (k .ensures) (start .pre .1 .0))
+    let start = c .before .before .before .before .before .before .before .before .before .before .before .before in (
+      answers-open (start .pre .0) (start .pre .1 .0) (k .result) _ (k .kept .1 .1 .0) (k .ensures) (not-true _ (c .if1 .taken)) (omega (arith, start .pre .1 .1)),
+      collected-further _ _ _ _ (k .result) _ (k .ensures) (start .pre .1 .0),
+    )
 
 answer-line-requires : tie.Need-answer-line-requires
 answer-line-requires c κs =
@@ -53,9 +54,10 @@ same-length-6 c = search needs
 returns-2 : tie.Need-returns-2
 returns-2 c =
     let k = c .before .before .before .before .before .before .before .before .before .before .before .before .before .before .before .before .before .before .before .collect in
-    let start = c .before .before .before .before .before .before .before .before .before .before .before .before .before .before .before .before .before .before .before .before .before .before .before .before .before .before .before in
-    (answers-ended (start .pre .0) (start .pre .1 .0) (k .result) _ (k .kept .1 .1 .0) (k .ensures) (not-false _ (c .before .before .before .before .before .before .before .before .before .before .before .before .before .before .before .if1 .left)) (c .before .before .before .before .before .before .before .before .before .answer-line .ensures),
-    collected-further _ _ _ _ (k .result) _ (k .ensures) (start .pre .1 .0))
+    let start = c .before .before .before .before .before .before .before .before .before .before .before .before .before .before .before .before .before .before .before .before .before .before .before .before .before .before .before in (
+      answers-ended (start .pre .0) (start .pre .1 .0) (k .result) _ (k .kept .1 .1 .0) (k .ensures) (not-false _ (c .before .before .before .before .before .before .before .before .before .before .before .before .before .before .before .if1 .left)) (c .before .before .before .before .before .before .before .before .before .answer-line .ensures),
+      collected-further _ _ _ _ (k .result) _ (k .ensures) (start .pre .1 .0),
+    )
 
 pub answer-next-spec : {M : Type 1} → statement M
 answer-next-spec =

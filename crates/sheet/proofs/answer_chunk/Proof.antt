@@ -45,9 +45,10 @@ write-front-requires c κs =
 
 returns : tie.Need-returns Inv-loop μ-loop
 returns c =
-    let a = c .before .before .before .before in
-    (held-within (a .answer-lines .ensures .0 .held) (a .answer-lines .kept .1 .1 .0 ∙ a .before .before .before .before .before .answer-lines-arg .given .0 .1),
-    λ e. let z : _≡_ {A = ℕ} 0 1 = cc in absurd (omega arith))
+    let a = c .before .before .before .before in (
+      held-within (a .answer-lines .ensures .0 .held) (a .answer-lines .kept .1 .1 .0 ∙ a .before .before .before .before .before .answer-lines-arg .given .0 .1),
+      λ e. let z : _≡_ {A = ℕ} 0 1 = cc in absurd (omega arith),
+    )
 
 loop-less : tie.Need-loop-less Inv-loop μ-loop
 loop-less c =
