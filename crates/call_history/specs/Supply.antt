@@ -73,7 +73,8 @@ module _ (kind : Kind) (lawful : Lawful kind) (can : Suppliable kind) where
       (update-draws (2 ^ 32) (kind .calls .edit c list .change) (length list) s (lawful .calls .reach c list w free) shape (can .few list w))
   effect-draws list s store w shape (ask q) free = draws-done _ _
 
-  program-draws : (list : List ℕ) (store : StoreFor kind) → SheetOf (kind .view) list store → (call : CallFor kind)
+  -- Every draw that a call makes on a sheet is among 1 to 2^32.
+  pub program-draws : (list : List ℕ) (store : StoreFor kind) → SheetOf (kind .view) list store → (call : CallFor kind)
       → Draws (Among (2 ^ 32)) (callProgram kind call store)
   unfolding programOn
   program-draws list store w call =

@@ -5,9 +5,10 @@ use mathlib.Core.Bool.{true}
 use mathlib.Core.Logic.{_≢_, _↔_}
 use mathlib.Core.List.{List, [], _∷_, _++_, map}
 use mathlib.Core.Option.{some}
-use Prim.Native.Nat.{ℕ, _<_}
+use Prim.Native.Nat.{ℕ, _^_, _<_}
 use lib.ListN.{length, replicate}
 use Rattle.base.specs.Lists.{total}
+use Rattle.draw_shares.specs.Program.{Among, Draws}
 use Rattle.draw_shares.specs.Fraction.{_≐_, whole, unit}
 use Rattle.draw_shares.specs.Course.{Follows, share}
 use Rattle.tree_rules.specs.declared.Change.{Change}
@@ -19,7 +20,7 @@ use Rattle.call_outcomes.specs.declared.Cause.{Cause}
 use Rattle.call_outcomes.specs.declared.Cause.the-variants.{NotASheet, TapeEnded}
 use Rattle.call_outcomes.specs.declared.Answer.the-variants.{Checked, Changed, Refused}
 use Rattle.call_outcomes.specs.Causes.{argumentCause}
-use Rattle.call_outcomes.specs.Outcome.{outcome}
+use Rattle.call_outcomes.specs.Outcome.{outcome, callProgram}
 use Rattle.call_outcomes.specs.Plain.{RightLengths, equalStores, plainView, plain, Call, delete, check, changing, storeOf}
 use Rattle.call_outcomes.specs.PlainLaws.{lengths-right}
 use Rattle.call_outcomes.specs.Clubs.{clubs}
@@ -30,7 +31,7 @@ use Rattle.call_history.specs.Shares as shares
 use Rattle.call_history.specs.Refusals as refusals
 use Rattle.call_history.specs.TapeRuns.{tapeRuns, tapesDecide, CallsAmong, callsRuns}
 use Rattle.call_history.specs.TapeRunsLaws as tapes
-use Rattle.call_history.specs.Supply.{history-supplied}
+use Rattle.call_history.specs.Supply.{program-draws, history-supplied}
 use Rattle.call_history.specs.ClubSupply.{clubs-suppliable}
 use Rattle.call_history.specs.Clause as clause
 use Rattle.call_history.specs.ClubSheets as sheets
@@ -89,6 +90,10 @@ pub tapes-fair : (calls calls′ : List Call) (store store′ : Store) (faces fa
     → tapeRuns (map total numbers) (tapesDecide (plain clubs) calls store faces numbers)
     ≡ tapeRuns (map total numbers) (tapesDecide (plain clubs) calls′ store′ faces′ numbers)
 tapes-fair = tapes.tapes-fair (plain clubs) (plain clubs)
+
+-- Every draw that a call makes on any sheet is among 1 to 2^32.
+pub draws-among : (list : List ℕ) (store : Store) → ClubSheet list store → (call : Call) → Draws (Among (2 ^ 32)) (callProgram (plain clubs) call store)
+draws-among = program-draws (plain clubs) clubs-lawful clubs-suppliable
 
 -- For every course of a history there are tapes such that no call returns 7 and the words decide this very course.
 pub coins-supplied : (calls : List Call) (store : Store) → RightLengths clubs store → (faces : List ℕ) (v : Store)
