@@ -4,7 +4,7 @@ use mathlib.Core.List.{List, [], _∷_}
 use mathlib.Core.Option.{Option, some, none}
 use Prim.Native.Nat.{ℕ}
 use native.Mathlib.Omega.{arith}
-use lib.ListN.{length, replicate}
+use lib.ListN.{length}
 use Rattle.tree_rules.specs.declared.Change.{Change}
 use Rattle.tree_rules.specs.declared.Change.the-variants.{Delete}
 use Rattle.tree_rules.specs.ChangeList.{changeList}
@@ -21,7 +21,7 @@ use Rattle.call_outcomes.specs.Outcome.{listAfter, refused, outcome}
 use Rattle.call_outcomes.specs.DecisionLaws.{outcome-refused, question-outcome, store-decided, accepted-by}
 use Rattle.call_outcomes.specs.Plain.{RightLengths, foundBy, plainView, countOf, questionCause, replyTo, plain, delete, check, changing, storeOf}
 use Rattle.call_outcomes.specs.PlainLaws.{lengths-right, edit-list}
-use Rattle.call_outcomes.specs.Clubs.{clubs}
+use Rattle.call_outcomes.specs.Clubs.{clubs, zeros}
 use Rattle.call_outcomes.specs.ClubsLaws.{clubs-lawful}
 use Rattle.call_history.specs.History.{nextList}
 use Rattle.call_history.specs.NextSheet.{next-sheet}
@@ -78,7 +78,7 @@ changed-sheet list store w by entry tape output n words done =
         let z : _≡_ {A = ℕ} 0 1 = cc in absurd (omega arith)
 
 -- A sheet of no entries is all zeros.
-pub empty-zeros : (store : Store) → ClubSheet [] store → store ≡ storeOf (replicate (clubs .slots) 0) (replicate (clubs .counts) 0)
+pub empty-zeros : (store : Store) → ClubSheet [] store → store ≡ zeros
 empty-zeros store w =
     w .laid
     ∙ rw (one-empty (w .shape) (w .is-shape))
@@ -87,6 +87,6 @@ empty-zeros store w =
 -- A delete of the last entry leaves zeros.
 pub last-deleted : (e : ℕ) (store : Store) → ClubSheet (e ∷ []) store → (tape output : List ℕ) (n words : ℕ)
     → outcome (plain clubs) (delete 0) tape store output .answer ≡ Changed n words
-    → outcome (plain clubs) (delete 0) tape store output .store ≡ storeOf (replicate (clubs .slots) 0) (replicate (clubs .counts) 0)
+    → outcome (plain clubs) (delete 0) tape store output .store ≡ zeros
 unfolding changeList
 last-deleted e store w tape output n words done = empty-zeros _ (changed-sheet (e ∷ []) store w (Delete 0) 0 tape output n words done)

@@ -14,7 +14,7 @@ use Rattle.call_outcomes.specs.Returns.{causeNumber, returned}
 use Rattle.call_outcomes.specs.Kind.{clear}
 use Rattle.call_outcomes.specs.Outcome.{Outcome, outcome}
 use Rattle.call_outcomes.specs.Plain.{plain, insert, delete, read, place, check}
-use Rattle.call_outcomes.specs.Clubs.{clubs}
+use Rattle.call_outcomes.specs.Clubs.{clubs, zeros}
 use Rattle.frame_lines.specs.declared.Frame.{Frame}
 use Rattle.frame_lines.specs.declared.Frame.the-variants.{Insert, Delete, Read, Tape, Print, Clear, Place, NoFrame}
 use Rattle.frame_lines.specs.Frame.{frameOf}
@@ -31,6 +31,10 @@ pub record Kept : Type 0 where
 pub record TapeReady (k : Kept) : Type 0 where
   pub room : length (k .tape) ≡ mostWaiting
   pub few : k .waiting ≤ mostWaiting
+
+-- What the program starts with: the empty sheet, and a tape of which no word waits.
+unfoldable pub atStart : Kept
+atStart = record { store = zeros; tape = replicate mostWaiting 0; waiting = 0 }
 
 -- The lines that answer a line, and what is kept after it.
 pub record Answered : Type 0 where

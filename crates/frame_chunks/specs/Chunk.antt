@@ -25,28 +25,28 @@ pub record Held (s : Standing) : Type 0 where
   pub line : s .have ≤ length (s .line)
   pub tape : TapeReady (s .kept)
 
--- The bytes that answer the lines that end in a chunk, what is kept after them, and the line buffer with the bytes of the line that is
--- still open.
-pub record ChunkOutcome : Type 0 where
-  pub answers : List ℕ
-  pub kept : Kept
+-- At the end of a chunk: the line buffer, the number of bytes that it holds of the line that is still open, and what the program keeps.
+pub record End : Type 0 where
   pub line : List ℕ
   pub have : ℕ
+  pub kept : Kept
+
+abbrev pub end : List ℕ → ℕ → Kept → End
+end line have k = record { line = line; have = have; kept = k }
+
+-- The bytes that answer the lines that end in a chunk, and what there is at its end.
+pub record ChunkOutcome : Type 0 where
+  pub answers : List ℕ
+  pub end : End
 
 unfoldable pub chunkOutcome : List ℕ → Standing → ChunkOutcome
 chunkOutcome chunk s =
     let gone = goneFrom chunk (s .next) (s .line) (s .have) in
-    record { answers = answersTo (gone .lines) (s .kept); kept = keptAfter (gone .lines) (s .kept); line = gone .line; have = gone .have }
+    record { answers = answersTo (gone .lines) (s .kept); end = end (gone .line) (gone .have) (keptAfter (gone .lines) (s .kept)) }
 
 -- With bytes of answers in front.
 unfoldable pub withAnswers : List ℕ → ChunkOutcome → ChunkOutcome
-withAnswers bytes o = record { answers = bytes ++ o .answers; kept = o .kept; line = o .line; have = o .have }
-
--- A chunk is passed: from s on it comes to this line buffer, this number of bytes and what is kept.
-pub record PassesChunk (chunk : List ℕ) (s : Standing) (line : List ℕ) (have : ℕ) (k : Kept) : Type 0 where
-  pub line-is : line ≡ chunkOutcome chunk s .line
-  pub have-is : have ≡ chunkOutcome chunk s .have
-  pub kept-is : k ≡ chunkOutcome chunk s .kept
+withAnswers bytes o = record { answers = bytes ++ o .answers; end = o .end }
 
 -- A line is answered behind the first `at` bytes of the output, and what is kept follows.
 pub record AnswersLine (line : List ℕ) (k : Kept) (output : List ℕ) (at bytes : ℕ) (k′ : Kept) (output′ : List ℕ) : Type 0 where

@@ -20,14 +20,14 @@ use Rattle.frame_replies.specs.WroteLaws.{wrote-length, wrote-none, wrote-more}
 use Rattle.frame_answers.specs.Step.{Kept, TapeReady, answerTo, keptBy, answersTo, keptAfter, longest, stepOf}
 use Rattle.frame_answers.specs.StepLaws.{step-gives}
 use Rattle.frame_answers.specs.ReadyLaws.{tape-ready}
-use Rattle.frame_chunks.specs.Chunk.{Standing, standing, Held, ChunkOutcome, chunkOutcome, withAnswers, PassesChunk, AnswersLine, AnswersLines}
+use Rattle.frame_chunks.specs.Chunk.{Standing, standing, Held, End, end, ChunkOutcome, chunkOutcome, withAnswers, AnswersLine, AnswersLines}
 
 -- ---- what a chunk comes to
 
 module _ (chunk : List ℕ) where
   -- At its end a chunk comes to what is there.
   pub outcome-end : (s : Standing) → length chunk ≤ s .next
-      → chunkOutcome chunk s ≡ record { answers = []; kept = s .kept; line = s .line; have = s .have }
+      → chunkOutcome chunk s ≡ record { answers = []; end = end (s .line) (s .have) (s .kept) }
   unfolding chunkOutcome answersTo keptAfter
   outcome-end s l = rw (from-end chunk (s .next) (s .line) (s .have) l)
 
@@ -143,26 +143,11 @@ module _ {chunk : List ℕ} {s : Standing} {output : List ℕ} where
 
 -- ---- a chunk passed in several parts
 
--- From t on a chunk comes to what it comes to from s on, but for the answers.
-pub record SameEnd (chunk : List ℕ) (s t : Standing) : Type 0 where
-  pub line-is : chunkOutcome chunk t .line ≡ chunkOutcome chunk s .line
-  pub have-is : chunkOutcome chunk t .have ≡ chunkOutcome chunk s .have
-  pub kept-is : chunkOutcome chunk t .kept ≡ chunkOutcome chunk s .kept
-
-module _ {chunk : List ℕ} {s : Standing} where
-  pub same-start : SameEnd chunk s s
-  same-start = record { line-is = refl; have-is = refl; kept-is = refl }
-
-  pub same-more : {t u : Standing} {output output′ : List ℕ} {at next : ℕ} → SameEnd chunk s t → AnswersLines chunk t output at u output′ next
-      → SameEnd chunk s u
+module _ (chunk : List ℕ) (t : Standing) {there : End} (e : chunkOutcome chunk t .end ≡ there) where
+  pub end-more : {u : Standing} {output output′ : List ℕ} {at next : ℕ} → AnswersLines chunk t output at u output′ next
+      → chunkOutcome chunk u .end ≡ there
   unfolding withAnswers
-  same-more e a = record {
-    line-is = ap (λ (o : ChunkOutcome). o .line) (sym (a .answers)) ∙ e .line-is;
-    have-is = ap (λ (o : ChunkOutcome). o .have) (sym (a .answers)) ∙ e .have-is;
-    kept-is = ap (λ (o : ChunkOutcome). o .kept) (sym (a .answers)) ∙ e .kept-is;
-  }
+  end-more a = ap (λ (o : ChunkOutcome). o .end) (sym (a .answers)) ∙ e
 
-  pub same-end : {t : Standing} → SameEnd chunk s t → length chunk ≤ t .next → PassesChunk chunk s (t .line) (t .have) (t .kept)
-  same-end {t} e l =
-      let there = outcome-end chunk t l in
-      record { line-is = rw there at (e .line-is); have-is = rw there at (e .have-is); kept-is = rw there at (e .kept-is) }
+  pub end-there : length chunk ≤ t .next → end (t .line) (t .have) (t .kept) ≡ there
+  end-there l = ap (λ (o : ChunkOutcome). o .end) (sym (outcome-end chunk t l)) ∙ e

@@ -57,7 +57,7 @@ kept-append (line ∷ lines) more k = kept-append lines more (keptBy line k)
 -- the bytes of answers and what is kept are those of the lines given out
 record Says (chunks : List (List ℕ)) (line : List ℕ) (have : ℕ) (k : Kept) : Type 0 where
   answers : inputOutcome chunks line have k .answers ≡ answersTo (linesOver chunks line have) k
-  kept : inputOutcome chunks line have k .kept ≡ keptAfter (linesOver chunks line have) k
+  kept : inputOutcome chunks line have k .end .kept ≡ keptAfter (linesOver chunks line have) k
 
 lf-ends : (line : List ℕ) (have : ℕ) → goneFrom (10 ∷ []) 0 line have ≡ record { lines = take have line ∷ []; line = line; have = 0 }
 unfolding with
@@ -84,7 +84,7 @@ says (chunk ∷ chunks) line have k =
 -- Chunk by chunk the answers to the lines of the whole input are given, and what is kept at the end is what these lines leave.
 pub chunks-answered : (chunks : List (List ℕ)) (line : List ℕ) → 130 < length line → (k : Kept)
     → (inputOutcome chunks line 0 k .answers ≡ answersTo (linesOf (joined chunks)) k)
-    × (inputOutcome chunks line 0 k .kept ≡ keptAfter (linesOf (joined chunks)) k)
+    × (inputOutcome chunks line 0 k .end .kept ≡ keptAfter (linesOf (joined chunks)) k)
 chunks-answered chunks line more k = (
   says chunks line 0 k .answers ∙ ap (λ (lines : List (List ℕ)). answersTo lines k) cut ∙ answers-cut (length line) more (linesOf (joined chunks)) k,
   says chunks line 0 k .kept ∙ ap (λ (lines : List (List ℕ)). keptAfter lines k) cut ∙ kept-cut (length line) more (linesOf (joined chunks)) k,

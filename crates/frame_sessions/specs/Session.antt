@@ -5,11 +5,10 @@ use Prim.Native.Nat.{ℕ, _+_}
 use lib.ListN.{take, replicate}
 use Rattle.base.specs.Cases.{ifLt}
 use Rattle.base.specs.Lists.{Every}
-use Rattle.store_layout.specs.Layout.{Store}
 use Rattle.call_outcomes.specs.Kind.{clear}
 use Rattle.call_outcomes.specs.Returns.{returned}
 use Rattle.call_outcomes.specs.Outcome.{outcome}
-use Rattle.call_outcomes.specs.Plain.{plain, Call, insert, delete, read, place, check, storeOf}
+use Rattle.call_outcomes.specs.Plain.{plain, Call, insert, delete, read, place, check}
 use Rattle.call_outcomes.specs.Clubs.{clubs}
 use Rattle.call_history.specs.History.{Sent}
 use Rattle.frame_lines.specs.declared.Frame.{Frame}
@@ -22,13 +21,6 @@ use Rattle.frame_answers.specs.Step.{Kept, answerTo, keptBy}
 -- The words that wait.
 abbrev pub waitingWords : Kept → List ℕ
 waitingWords k = take (k .waiting) (k .tape)
-
--- What the program starts with: the empty sheet, which is all zeros, and a tape of which no word waits.
-abbrev pub zeros : Store
-zeros = storeOf (replicate (clubs .slots) 0) (replicate (clubs .counts) 0)
-
-unfoldable pub atStart : Kept
-atStart = record { store = zeros; tape = replicate mostWaiting 0; waiting = 0 }
 
 -- The call that a frame asks; a tape line asks none, and neither does a line that is no frame.
 unfoldable pub callBy : Frame → List Call

@@ -4,7 +4,7 @@ use mathlib.Core.Logic.{_≢_, _↔_}
 use mathlib.Core.List.{List, [], _∷_, _++_}
 use Prim.Native.Nat.{ℕ}
 use native.Mathlib.Omega.{arith}
-use lib.ListN.{replicate, length-replicate}
+use lib.ListN.{length-replicate}
 use Rattle.base.specs.Cases.{ifEq}
 use Rattle.base.specs.Lists.{Every}
 use Rattle.base.specs.CaseLaws.{ifEq-no}
@@ -16,10 +16,9 @@ use Rattle.call_outcomes.specs.declared.Answer.{Answer}
 use Rattle.call_outcomes.specs.declared.Answer.the-variants.{Refused}
 use Rattle.call_outcomes.specs.Returns.{returned}
 use Rattle.call_outcomes.specs.Kind.{Kind, StoreFor}
-use Rattle.call_outcomes.specs.Outcome.{outcome}
 use Rattle.call_outcomes.specs.Plain.{RightLengths, plain, Call, storeOf}
 use Rattle.call_outcomes.specs.PlainLaws.{lengths-right}
-use Rattle.call_outcomes.specs.Clubs.{clubs}
+use Rattle.call_outcomes.specs.Clubs.{clubs, zeros}
 use Rattle.call_outcomes.specs.ClubsLaws.{clubs-lawful}
 use Rattle.call_history.specs.History.{history, listAtEnd, Sent, SentTo, clearing, storeAfter, lastStore, NoneEnds, facesSent, callsOf}
 use Rattle.call_history.specs.Supply.{clear-leaves}
@@ -30,8 +29,8 @@ use Rattle.frame_lines.specs.declared.Frame.{Frame}
 use Rattle.frame_lines.specs.declared.Frame.the-variants.{Insert, Delete, Read, Tape, Print, Clear, Place, NoFrame}
 use Rattle.frame_lines.specs.Frame.{frameOf}
 use Rattle.frame_replies.specs.Reply.{Reply, brief}
-use Rattle.frame_answers.specs.Step.{Kept, keeping, changedBy, changed, readReply, readLine, placeReply, placeLine, clearLine, cleared, printReplies, printLines, answerTo, keptBy, keptAfter}
-use Rattle.frame_sessions.specs.Session.{zeros, atStart, callBy, sentBy, callsIn, sentOver, numberOf, NoneSays07}
+use Rattle.frame_answers.specs.Step.{Kept, atStart, keeping, changedBy, changed, readReply, readLine, placeReply, placeLine, clearLine, cleared, printReplies, printLines, answerTo, keptBy, keptAfter}
+use Rattle.frame_sessions.specs.Session.{callBy, sentBy, callsIn, sentOver, numberOf, NoneSays07}
 use Rattle.frame_sessions.specs.SessionLaws.{store-by, session-store}
 
 -- ---- the calls, by the lines alone

@@ -5,7 +5,7 @@ use mathlib.Core.List.{List, [], _∷_, _++_, append-nil, append-assoc}
 use Prim.Native.Nat.{ℕ, zero, suc, _+_, _-_, _≤_, _<_}
 use native.Mathlib.Nat.{sub-zero, not-suc-le-zero}
 use native.Mathlib.Omega.{arith}
-use lib.ListN.{length, take, drop, replicate, length-drop, length-append, take-append-drop}
+use lib.ListN.{length, take, drop, replicate, length-drop, take-append-drop}
 use lib.Seq.{length-take-le, take-nil, take-all, take-append-le, take-append-add}
 use Rattle.base.specs.CaseLaws.{by-lt, ifLt-yes, ifLt-no, lt-or-ge}
 use Rattle.call_outcomes.specs.Kind.{Kind, StoreFor}
@@ -18,7 +18,7 @@ use Rattle.frame_lines.specs.declared.Frame.{Frame}
 use Rattle.frame_lines.specs.declared.Frame.the-variants.{Insert, Delete, Read, Tape, Print, Clear, Place, NoFrame}
 use Rattle.frame_lines.specs.Frame.{frameOf}
 use Rattle.frame_tape.specs.Tape.{mostWaiting, readOff, lineWords}
-use Rattle.frame_tape.specs.TapeLaws.{length-readOff, length-words}
+use Rattle.frame_tape.specs.TapeLaws.{length-words}
 use Rattle.frame_answers.specs.Step.{Kept, TapeReady, Answered, keeping, changedBy, changed, cleared, taped, answerTo, keptBy, keptAfter}
 use Rattle.frame_answers.specs.ReadyLaws.{waiting-within, read-within, tape-ready}
 use Rattle.frame_sessions.specs.Session.{waitingWords, sentBy, broughtBy, readBy, sentOver, broughtOver, readOver}

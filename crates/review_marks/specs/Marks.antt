@@ -2,16 +2,13 @@
 use mathlib.Core.List.{List, [], _∷_, map}
 use Prim.Native.Nat.{ℕ, _+_, _-_, _*_, _^_}
 use Prim.Native.String.{String}
-use lib.ListN.{replicate}
 use Rattle.draw.specs.declared.Drawn.{Drawn}
 use Rattle.draw.specs.declared.Drawn.the-variants.{Face, Ended}
 use Rattle.draw.specs.Draw.{drawAt, tapePlaceAfter}
 use Rattle.draw_shares.specs.Program.{Program, done, draw}
 use Rattle.tree_sizes.specs.Sizes.{digits, height, slots, candidates, windowStart}
 use Rattle.tree_rules.specs.Rules.{SizeStep, kept, anew, deleteSize}
-use Rattle.call_outcomes.specs.Clubs.{clubs}
-use Rattle.frame_tape.specs.Tape.{mostWaiting}
-use Rattle.frame_answers.specs.Step.{Kept, answersTo}
+use Rattle.frame_answers.specs.Step.{atStart, answersTo}
 use Rattle.review_marks.specs.Text.{bytes, ended}
 
 -- What a case names: a number of a size M; the first or the last of c candidates among n entries, counted from 1; the face of a draw among
@@ -51,10 +48,6 @@ byRules (faceOf m words) = face (drawAt m words 0)
 byRules (wordsOf m words) = tapePlaceAfter 0 (drawAt m words 0)
 byRules (deleteAmong N M) = among (deleteSize N M)
 
--- The program as it starts: a cleared sheet, and no word waits.
-unfoldable pub started : Kept
-started = record { store = record { slots = replicate (clubs .slots) 0; counts = replicate (clubs .counts) 0 }; tape = replicate mostWaiting 0; waiting = 0 }
-
 -- A case: what it names and its value, or lines and the lines that the program answers them by, as document 01 writes them.
 infix 70 _is_ _answeredBy_
 pub data Case : Type 0 where
@@ -64,7 +57,7 @@ pub data Case : Type 0 where
 -- The case with what the definitions give.
 unfoldable pub computed : Case → Case
 computed (q is v) = q is byRules q
-computed (lines answeredBy answers) = lines answeredBy answersTo (map bytes lines) started
+computed (lines answeredBy answers) = lines answeredBy answersTo (map bytes lines) atStart
 
 -- The starred cases in the order of document 01.
 unfoldable pub marks : List Case

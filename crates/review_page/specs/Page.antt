@@ -6,7 +6,7 @@ use mathlib.Core.Logic.{_≢_, _↔_}
 use mathlib.Core.List.{List, [], _∷_, _++_, map}
 use mathlib.Core.Option.{some}
 use Prim.Native.Nat.{ℕ, _^_, _<_}
-use lib.ListN.{length, replicate}
+use lib.ListN.{length}
 use Rattle.base.specs.Lists.{total}
 use Rattle.draw_shares.specs.Program.{Among, Draws}
 use Rattle.draw_shares.specs.Fraction.{_≐_, whole, unit}
@@ -21,9 +21,9 @@ use Rattle.call_outcomes.specs.declared.Cause.the-variants.{NotASheet, TapeEnde
 use Rattle.call_outcomes.specs.declared.Answer.the-variants.{Checked, Changed, Refused}
 use Rattle.call_outcomes.specs.Causes.{argumentCause}
 use Rattle.call_outcomes.specs.Outcome.{outcome, callProgram}
-use Rattle.call_outcomes.specs.Plain.{RightLengths, equalStores, plainView, plain, Call, delete, check, changing, storeOf}
+use Rattle.call_outcomes.specs.Plain.{RightLengths, equalStores, plainView, plain, Call, delete, check, changing}
 use Rattle.call_outcomes.specs.PlainLaws.{lengths-right}
-use Rattle.call_outcomes.specs.Clubs.{clubs}
+use Rattle.call_outcomes.specs.Clubs.{clubs, zeros}
 use Rattle.call_outcomes.specs.ClubsLaws.{clubs-lawful}
 use Rattle.call_outcomes.specs.LongerTapeLaws as longer
 use Rattle.call_history.specs.History.{history, listAtEnd, SameTable, Sent, clearing, lastStore, NoneEnds, facesSent, callsOf}
@@ -38,8 +38,8 @@ use Rattle.call_history.specs.ClubSheets as sheets
 use Rattle.call_history.specs.ClubSheets.{ClubSheet}
 use Rattle.frame_input.specs.Lines.{linesOf}
 use Rattle.frame_input.specs.Chunks.{joined}
-use Rattle.frame_answers.specs.Step.{Kept, TapeReady, answersTo, keptAfter}
-use Rattle.frame_sessions.specs.Session.{waitingWords, zeros, atStart, callsIn, sentOver, broughtOver, readOver, NoneSays07}
+use Rattle.frame_answers.specs.Step.{Kept, TapeReady, atStart, answersTo, keptAfter}
+use Rattle.frame_sessions.specs.Session.{waitingWords, callsIn, sentOver, broughtOver, readOver, NoneSays07}
 use Rattle.frame_sessions.specs.SessionLaws as session
 use Rattle.frame_sessions.specs.SessionHistory as session-history
 use Rattle.frame_chunks.specs.Input.{inputOutcome}
@@ -139,7 +139,7 @@ changed-sheet = sheets.changed-sheet
 -- A delete of the last entry leaves zeros.
 pub last-deleted : (e : ℕ) (store : Store) → ClubSheet (e ∷ []) store → (tape output : List ℕ) (n words : ℕ)
     → outcome (plain clubs) (delete 0) tape store output .answer ≡ Changed n words
-    → outcome (plain clubs) (delete 0) tape store output .store ≡ storeOf (replicate (clubs .slots) 0) (replicate (clubs .counts) 0)
+    → outcome (plain clubs) (delete 0) tape store output .store ≡ zeros
 last-deleted = sheets.last-deleted
 
 -- ---- the program
@@ -148,7 +148,7 @@ last-deleted = sheets.last-deleted
 -- lines leave. A line buffer has more than the 130 bytes of the longest frame. `answer_lines` of frame_chunks is proved to answer a chunk so.
 pub input-answered : (chunks : List (List ℕ)) (line : List ℕ) → 130 < length line → (k : Kept)
     → (inputOutcome chunks line 0 k .answers ≡ answersTo (linesOf (joined chunks)) k)
-    × (inputOutcome chunks line 0 k .kept ≡ keptAfter (linesOf (joined chunks)) k)
+    × (inputOutcome chunks line 0 k .end .kept ≡ keptAfter (linesOf (joined chunks)) k)
 input-answered = input.chunks-answered
 
 -- The store after the lines is the last store of the calls that their frames ask, each with the tape waiting then.

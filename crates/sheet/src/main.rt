@@ -5,7 +5,7 @@ ghost use Prim.Native.Nat.{_<_, _≤_};
 ghost use lib.ListN.{length, take};
 ghost use Rattle.call_outcomes.specs.Plain.{storeOf};
 ghost use Rattle.frame_answers.specs.Gives.{keptOf};
-ghost use Rattle.frame_chunks.specs.Chunk.{standing, PassesChunk};
+ghost use Rattle.frame_chunks.specs.Chunk.{standing, end, chunkOutcome};
 ghost use Rattle.sheet.specs.Within.{Within};
 
 // The slots of the store.
@@ -59,9 +59,10 @@ fn answer_chunk(
 ) -> State
     requires chunk { ⌜ n ≤ length (now input) ⌝ }
     requires held { ⌜ Within before ⌝ }
-    ensures { λ r. ⌜ Within r × (r .failed ≡ false → PassesChunk (take n (now (input .entry)))
-        (standing 0 (now (line .entry)) (before .have) (keptOf (storeOf (now (slots .entry)) (now (counts .entry))) (now (tape .entry)) (before .waiting)))
-        (now (line .exit)) (r .have) (keptOf (storeOf (now (slots .exit)) (now (counts .exit))) (now (tape .exit)) (r .waiting))) ⌝ }
+    ensures { λ r. ⌜ Within r × (r .failed ≡ false
+        → end (now (line .exit)) (r .have) (keptOf (storeOf (now (slots .exit)) (now (counts .exit))) (now (tape .exit)) (r .waiting))
+        ≡ chunkOutcome (take n (now (input .entry)))
+        (standing 0 (now (line .entry)) (before .have) (keptOf (storeOf (now (slots .entry)) (now (counts .entry))) (now (tape .entry)) (before .waiting))) .end) ⌝ }
 {
     let chunk = &input[..n];
     let mut have = before.have;

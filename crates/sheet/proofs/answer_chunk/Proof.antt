@@ -1,7 +1,7 @@
 -- `answer_chunk` meets its contract. The loop's invariant: from here on the chunk comes to what it comes to from its start on.
 use Prim.Native.Nat.{ℕ, _-_, _≤_}
 use borrow.Author.Needs.{needs}
-use mathlib.Core.Path.{_≡_, sym, _∙_}
+use mathlib.Core.Path.{_≡_, refl, sym, _∙_}
 use native.Mathlib.Omega.{arith}
 use lib.ListN.{length, take}
 use lib.Seq.{length-take-le}
@@ -9,8 +9,8 @@ use Rattle.call_outcomes.specs.Plain.{storeOf}
 use Rattle.frame_tape.specs.Tape.{mostWaiting}
 use Rattle.frame_replies.specs.WroteLaws.{wrote-length}
 use Rattle.frame_answers.specs.Gives.{keptOf}
-use Rattle.frame_chunks.specs.Chunk.{standing}
-use Rattle.frame_chunks.specs.ChunkLaws.{held-within, SameEnd, same-start, same-more, same-end}
+use Rattle.frame_chunks.specs.Chunk.{standing, chunkOutcome}
+use Rattle.frame_chunks.specs.ChunkLaws.{held-within, end-more, end-there}
 use Rattle.sheet.specs.Within.{lineRoom}
 use Rattle.sheet.proofs.answer_chunk.Statement.{statement}
 use Rattle.sheet.proofs.answer_chunk.Tie as tie
@@ -18,8 +18,8 @@ use Rattle.sheet.proofs.answer_chunk.Tie as tie
 abbrev Inv-loop : tie.InvT-loop
 Inv-loop input n line₀ slots₀ counts₀ tape₀ output₀ chunk have₀ waiting₀ from₀ line slots counts tape output have waiting from =
     (have ≤ lineRoom) × (waiting ≤ mostWaiting)
-    × SameEnd (take n input) (standing 0 line₀ have₀ (keptOf (storeOf slots₀ counts₀) tape₀ waiting₀))
-    (standing from line have (keptOf (storeOf slots counts) tape waiting))
+    × (chunkOutcome (take n input) (standing from line have (keptOf (storeOf slots counts) tape waiting)) .end
+    ≡ chunkOutcome (take n input) (standing 0 line₀ have₀ (keptOf (storeOf slots₀ counts₀) tape₀ waiting₀)) .end)
 
 abbrev μ-loop : tie.MeasureT-loop
 μ-loop input n line₀ slots₀ counts₀ tape₀ output₀ chunk have₀ waiting₀ from₀ line slots counts tape output have waiting from = n - from
@@ -28,7 +28,7 @@ slice-aggregate-chunk : tie.Need-slice-aggregate-chunk Inv-loop μ-loop
 slice-aggregate-chunk c = sym (length-take-le _ _ (c .before .before .pre .0))
 
 loop-holds : tie.Need-loop-holds Inv-loop μ-loop
-loop-holds c = (c .before .before .pre .1 .0, c .before .before .pre .1 .1, same-start)
+loop-holds c = (c .before .before .pre .1 .0, c .before .before .pre .1 .1, refl)
 
 answer-lines-requires : tie.Need-answer-lines-requires Inv-loop μ-loop
 answer-lines-requires c κs =
@@ -62,14 +62,14 @@ loop-again : tie.Need-loop-again Inv-loop μ-loop
 loop-again c =
     let a = c .before .before .before .before in
     let h = held-within (a .answer-lines .ensures .0 .held) (a .answer-lines .kept .1 .1 .0 ∙ a .before .before .before .before .before .answer-lines-arg .given .0 .1) in
-    (h .0, h .1, same-more (a .before .before .before .before .before .before .before .loop .inv .2) (a .answer-lines .ensures .0))
+    (h .0, h .1, end-more _ _ (a .before .before .before .before .before .before .before .loop .inv .2) (a .answer-lines .ensures .0))
 
 returns-2 : tie.Need-returns-2 Inv-loop μ-loop
 returns-2 c =
     let i = c .before .loop .inv in
     let start = c .before .before .before .before in
     let size : length (take (start .args .n) (start .args .input .now)) ≡ start .args .n = length-take-le _ _ (start .pre .0) in
-    ((i .0, i .1), λ e. same-end (i .2) (rw size (c .loop-test .left)))
+    ((i .0, i .1), λ e. end-there _ _ (i .2) (rw size (c .loop-test .left)))
 
 pub answer-chunk-spec : {M : Type 1} → statement M
 answer-chunk-spec =
