@@ -42,9 +42,10 @@ fn window(n: usize, c: usize) -> usize {
     n.div_ceil(2) - c.div_ceil(2)
 }
 
-/// The slots ⌊k s / n⌋ one after the other, with one division.
+/// The slots ⌊(2k + 1) s / (2n)⌋ one after the other, with one division: s / n
+/// from one to the next, and half of that to the first. A rest is by 2n.
 struct Slots {
-    n: usize,
+    divisor: usize,
     slot: usize,
     rest: usize,
     step: usize,
@@ -53,21 +54,23 @@ struct Slots {
 
 impl Slots {
     fn new(s: usize, n: usize) -> Slots {
-        let (slot, d) = if n == 0 { (s, 1) } else { (0, n as u32) };
+        let n = n.max(1);
+        let step = (s as u32 / n as u32) as usize;
+        let rest = (s as u32 % n as u32) as usize;
         Slots {
-            n,
-            slot,
-            rest: 0,
-            step: (s as u32 / d) as usize,
-            step_rest: (s as u32 % d) as usize,
+            divisor: 2 * n,
+            slot: step / 2,
+            rest: if step % 2 == 0 { rest } else { n + rest },
+            step,
+            step_rest: 2 * rest,
         }
     }
 
     fn advance(&mut self) {
         self.slot += self.step;
         self.rest += self.step_rest;
-        if self.rest >= self.n {
-            self.rest -= self.n;
+        if self.rest >= self.divisor {
+            self.rest -= self.divisor;
             self.slot += 1;
         }
     }
@@ -75,10 +78,11 @@ impl Slots {
 
 /// As many entries as there should be, and none of their slots empty.
 fn leaf_is_spread(leaf: &[u64], n: usize) -> bool {
+    // Divided first, while the entries are counted.
+    let mut next = Slots::new(leaf.len(), n);
     if leaf.iter().filter(|&&held| held != 0).count() != n {
         return false;
     }
-    let mut next = Slots::new(leaf.len(), n);
     (0..n).all(|_| {
         let full = leaf[next.slot] != 0;
         next.advance();

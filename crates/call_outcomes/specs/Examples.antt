@@ -29,9 +29,9 @@ tiny = record { entries = 3; slots = 6; counts = 4 }
 one : Store
 one = record { slots = 0xA ∷ 0 ∷ 0 ∷ 0 ∷ 0 ∷ 0 ∷ []; counts = 1 ∷ 1 ∷ 0 ∷ 0 ∷ [] }
 
--- the second insert of document 01's printed case, and the same with a tape that ends
+-- the second insert of document 01's printed case by the leaf rule of document 02, and the same with a tape that ends
 written : map (λ tape. outcome (plain tiny) (insert 1 0xB) tape one []) ((1 ∷ []) ∷ [] ∷ [])
-    ≡ record { answer = Changed 2 1; store = record { slots = 0xA ∷ 0xB ∷ 0 ∷ 0 ∷ 0 ∷ 0 ∷ []; counts = 3 ∷ 2 ∷ 0 ∷ 0 ∷ [] }; output = [] }
+    ≡ record { answer = Changed 2 1; store = record { slots = 0xA ∷ 0 ∷ 0xB ∷ 0 ∷ 0 ∷ 0 ∷ []; counts = 3 ∷ 2 ∷ 0 ∷ 0 ∷ [] }; output = [] }
     ∷ record { answer = Refused TapeEnded; store = one; output = [] }
     ∷ []
 unfolding tiny one outcome outcomeBy finished refused answerOf entriesOf effect edited applied decision lookedAt storeDecision byLengths byFound byArguments argumentCause rightLengths foundBy changeCause editOf firstOf changeList update reshape fresh sizeStep insertSize grow rebuild walk countAfter runAt afterDraw drawAt drawFrom scan ifEq ifLt ifLe _>>=_ decode sheetTest shapeTest balancedTest shapeOf shapeIn numbered numberOrder countPlace listOf nonzero readTree equalLists layOut laySlots layCounts padTo layLeaves leafCounts spread putEntries slotOf leafSlots height digits doublings countOrder rangeAt reorder pick shapeCounts writeTree

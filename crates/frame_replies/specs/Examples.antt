@@ -24,15 +24,15 @@ size-line : encode (sheet 3 2) ≡ 57 ∷ 48 ∷ 48 ∷ 48 ∷ 48 ∷ 51 ∷ 48 
 unfolding encode header digits hexDigit ifLt
 size-line = refl
 
--- 9100000002000000000000000A000000000000000B0000000000000000
+-- 9100000002000000000000000A0000000000000000000000000000000B
 leaf-bytes : List ℕ
-leaf-bytes = (57 ∷ 49 ∷ replicate 7 48) ++ ((50 ∷ replicate 15 48) ++ ((65 ∷ replicate 15 48) ++ (66 ∷ replicate 16 48)))
+leaf-bytes = (57 ∷ 49 ∷ replicate 7 48) ++ ((50 ∷ replicate 15 48) ++ ((65 ∷ replicate 31 48) ++ (66 ∷ [])))
 
-leaf-line : encode (leaf 0 2 (10 ∷ 11 ∷ 0 ∷ [])) ≡ leaf-bytes
+leaf-line : encode (leaf 0 2 (10 ∷ 0 ∷ 11 ∷ [])) ≡ leaf-bytes
 unfolding leaf-bytes encode header entryDigits digits hexDigit ifLt
 leaf-line = refl
 
-leaf-read : replyOf leaf-bytes ≡ leaf 0 2 (10 ∷ 11 ∷ 0 ∷ [])
+leaf-read : replyOf leaf-bytes ≡ leaf 0 2 (10 ∷ 0 ∷ 11 ∷ [])
 unfolding leaf-bytes replyOf replyFor leafOf entriesFrom field hexValue ifEq ifLt
 leaf-read = refl
 

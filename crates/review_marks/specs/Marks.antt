@@ -1,4 +1,5 @@
--- The starred cases of document 01, "Marks round the course": what each one names by the definitions. Definitions only.
+-- The starred cases of document 01, "Marks round the course", the printed sheet by the leaf rule of document 02 (F-2): what each one names
+-- by the definitions. Definitions only.
 use mathlib.Core.List.{List, [], _∷_, map}
 use Prim.Native.Nat.{ℕ, _+_, _-_, _*_, _^_}
 use Prim.Native.String.{String}
@@ -48,7 +49,7 @@ byRules (faceOf m words) = face (drawAt m words 0)
 byRules (wordsOf m words) = tapePlaceAfter 0 (drawAt m words 0)
 byRules (deleteAmong N M) = among (deleteSize N M)
 
--- A case: what it names and its value, or lines and the lines that the program answers them by, as document 01 writes them.
+-- A case: what it names and its value, or lines and the lines that the program answers them by, as the documents write them.
 infix 70 _is_ _answeredBy_
 pub data Case : Type 0 where
   _is_ : Asked → ℕ → Case
@@ -94,6 +95,6 @@ marks =
     ∷ "81000002"
     ∷ "85000002"
     ∷ "9000030002"
-    ∷ "9100000002000000000000000A000000000000000B0000000000000000"
+    ∷ "9100000002000000000000000A0000000000000000000000000000000B"
     ∷ [])
     ∷ []

@@ -16,18 +16,18 @@ use Rattle.store_layout.specs.Decode.{numbered, listOf, shapeOf, balance
 tiny : Capacity
 tiny = record { entries = 3; slots = 6; counts = 4 }
 
--- the sheet that document 01 prints: entries A and B, M = 3
+-- the sheet that document 01 prints, by the leaf rule of document 02: entries A and B, M = 3
 printed : layOut tiny (0xA ∷ 0xB ∷ []) (record { size = 3; tree = leaf })
-    ≡ record { slots = 0xA ∷ 0xB ∷ 0 ∷ 0 ∷ 0 ∷ 0 ∷ []; counts = 3 ∷ 2 ∷ 0 ∷ 0 ∷ [] }
+    ≡ record { slots = 0xA ∷ 0 ∷ 0xB ∷ 0 ∷ 0 ∷ 0 ∷ []; counts = 3 ∷ 2 ∷ 0 ∷ 0 ∷ [] }
 unfolding tiny layOut laySlots layCounts padTo layLeaves leafCounts spread putEntries slotOf leafSlots height digits doublings countOrder reorder pick rangeAt shapeCounts writeTree ifLe
 printed = refl
 
-read-back : decode tiny (record { slots = 0xA ∷ 0xB ∷ 0 ∷ 0 ∷ 0 ∷ 0 ∷ []; counts = 3 ∷ 2 ∷ 0 ∷ 0 ∷ [] })
+read-back : decode tiny (record { slots = 0xA ∷ 0 ∷ 0xB ∷ 0 ∷ 0 ∷ 0 ∷ []; counts = 3 ∷ 2 ∷ 0 ∷ 0 ∷ [] })
     ≡ some (record { list = 0xA ∷ 0xB ∷ []; shape = record { size = 3; tree = leaf } })
 unfolding tiny decode sheetTest shapeTest balancedTest shapeOf shapeIn numbered numberOrder countPlace listOf nonzero readTree equalLists layOut laySlots layCounts padTo layLeaves leafCounts spread putEntries slotOf leafSlots height digits doublings countOrder reorder pick rangeAt shapeCounts writeTree ifLe
 read-back = refl
 
 -- an old entry in a gap
-gap : decode tiny (record { slots = 0xA ∷ 0xB ∷ 0 ∷ 7 ∷ 0 ∷ 0 ∷ []; counts = 3 ∷ 2 ∷ 0 ∷ 0 ∷ [] }) ≡ none
+gap : decode tiny (record { slots = 0xA ∷ 0 ∷ 0xB ∷ 7 ∷ 0 ∷ 0 ∷ []; counts = 3 ∷ 2 ∷ 0 ∷ 0 ∷ [] }) ≡ none
 unfolding tiny decode sheetTest shapeTest balancedTest shapeOf shapeIn numbered numberOrder countPlace listOf nonzero readTree equalLists layOut laySlots layCounts padTo layLeaves leafCounts spread putEntries slotOf leafSlots height digits doublings countOrder reorder pick rangeAt shapeCounts writeTree ifLe
 gap = refl

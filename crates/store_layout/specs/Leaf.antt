@@ -1,11 +1,11 @@
 -- A leaf: its entries in its slots, and 0 in every slot without one. Definitions only.
 use mathlib.Core.List.{List, [], _∷_}
-use Prim.Native.Nat.{ℕ, zero, suc, _*_, _/_, _<_}
+use Prim.Native.Nat.{ℕ, zero, suc, _+_, _*_, _/_, _<_}
 use lib.ListN.{length, set, replicate}
 
--- The leaf rule: of n entries in s slots, entry k, from 0, stands in slot ⌊k × s / n⌋.
+-- The leaf rule (document 02, F-2): of n entries in s slots, entry k, from 0, stands in slot ⌊(2k + 1) × s / (2n)⌋.
 unfoldable pub slotOf : ℕ → ℕ → ℕ → ℕ
-slotOf s n k = k * s / n
+slotOf s n k = (2 * k + 1) * s / (2 * n)
 
 -- What the rest relies on of a leaf rule: the entries stand in order, in slots of the leaf.
 pub record Positions (n s : ℕ) (position : ℕ → ℕ) : Type 0 where

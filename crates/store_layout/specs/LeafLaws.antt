@@ -22,8 +22,8 @@ div-below b x y pos h = div-lt-iff-lt-mul pos .1 h
 pub slotOf-positions : (s n : ℕ) → n ≤ s → Positions n s (slotOf s n)
 unfolding slotOf
 slotOf-positions s n h = record {
-  rises = λ j k l m. omega (arith, div-apart n (j * s) (k * s) (omega arith) (omega (arith, mul-le-mul-right s l)));
-  inside = λ k m. omega (arith, div-below n (k * s) s (omega arith) (omega (arith, mul-le-mul-right s m)));
+  rises = λ j k l m. div-apart _ _ _ (omega arith) (omega (arith, mul-le-mul-right s l));
+  inside = λ k m. div-below _ _ _ (omega arith) (omega (arith, mul-le-mul-right s m));
 }
 
 -- ---- entries put in at positions

@@ -10,49 +10,54 @@ use native.Mathlib.Nat.{eq-or-lt-of-le, le-of-eq, not-suc-le-zero}
 use native.Mathlib.Numerals.{add-one}
 use native.Mathlib.Omega.{arith}
 use borrow.Author.Count.{below-more}
-use Rattle.base.specs.Cases.{ifLt}
-use Rattle.base.specs.CaseLaws.{ifLt-yes, ifLt-no, lt-or-ge}
+use Rattle.base.specs.CaseLaws.{lt-or-ge}
 use Rattle.base.specs.ListLaws.{length-part, part-at}
+use Rattle.store_layout.specs.declared.Quotient.{Quotient}
 use Rattle.store_layout.specs.Leaf.{slotOf, Positions, spread}
+use Rattle.store_layout.specs.Quotient.{Stands}
+use Rattle.store_layout.specs.QuotientLaws.{stands-slot, stands-end}
 use Rattle.store_layout.specs.Ready.{LeafReady}
 use Rattle.store_layout.specs.LeafLaws.{slotOf-positions, length-spread, spread-entry, spread-gap}
 
--- After i of s slots: k of the n entries are behind, the others ahead, and `next` is the slot of entry k, or s where there is none.
+-- After i of s slots: k of the n entries are behind, the others ahead, and `next` is the slot of entry k, or past the slots where there is
+-- none.
 pub record Passed (position : ℕ → ℕ) (n s i k next : ℕ) : Type 0 where
   pub inside : i ≤ s
   pub used : k ≤ n
   pub behind : (j : ℕ) → j < k → position j < i
   pub ahead : k < n → i ≤ position k
-  pub next-is : next ≡ ifLt k n (position k) s
+  pub next-is : k < n → next ≡ position k
+  pub past : n ≤ k → s ≤ next
 
 module _ {position : ℕ → ℕ} {n s : ℕ} where
-  pub passed-none : {next : ℕ} → next ≡ ifLt 0 n (position 0) s → Passed position n s 0 0 next
-  passed-none e = record {
+  pub passed-none : {next : ℕ} → (0 < n → next ≡ position 0) → (n ≤ 0 → s ≤ next) → Passed position n s 0 0 next
+  passed-none e past = record {
     inside = omega arith;
     used = omega arith;
     behind = λ j h. absurd (not-suc-le-zero h);
     ahead = λ h. omega arith;
     next-is = e;
+    past = past;
   }
 
   module _ {i k next : ℕ} (w : Passed position n s i k next) (more : i < s) where
     -- The next entry's slot is reached.
     pub entry-left : i ≡ next → k < n
-    entry-left e =
-        ⊎-elim (λ h. h) (λ (h : n ≤ k). omega (arith, w .next-is, ifLt-no k n (position k) s h)) (lt-or-ge k n)
+    entry-left e = ⊎-elim (λ h. h) (λ (h : n ≤ k). omega (arith, w .past h)) (lt-or-ge k n)
 
     pub entry-here : i ≡ next → i ≡ position k
-    entry-here e = e ∙ w .next-is ∙ ifLt-yes k n (position k) s (entry-left e)
+    entry-here e = e ∙ w .next-is (entry-left e)
 
     module _ (rule : Positions n s position) where
-      pub passed-entry : i ≡ next → {later : ℕ} → later ≡ ifLt (k + 1) n (position (k + 1)) s
+      pub passed-entry : i ≡ next → {later : ℕ} → (k + 1 < n → later ≡ position (k + 1)) → (n ≤ k + 1 → s ≤ later)
           → Passed position n s (i + 1) (k + 1) later
-      passed-entry e le = record {
+      passed-entry e le past = record {
         inside = omega arith;
         used = omega (arith, entry-left e);
         behind = below-more (λ j. position j < i + 1) k (λ j h. omega (arith, w .behind j h)) (omega (arith, entry-here e));
         ahead = λ h. omega (arith, entry-here e, rule .rises k (k + 1) (omega arith) h);
         next-is = le;
+        past = past;
       }
 
       pub passed-gap : (i ≡ next → ⊥) → Passed position n s (i + 1) k next
@@ -60,8 +65,9 @@ module _ {position : ℕ → ℕ} {n s : ℕ} where
         inside = omega arith;
         used = w .used;
         behind = λ j h. omega (arith, w .behind j h);
-        ahead = λ h. omega (arith, w .ahead h, w .next-is, ifLt-yes k n (position k) s h);
+        ahead = λ h. omega (arith, w .ahead h, w .next-is h);
         next-is = w .next-is;
+        past = w .past;
       }
 
       -- A slot that is not the next entry's is no entry's.
@@ -91,8 +97,11 @@ module _ {old : List ℕ} {from s : ℕ} {list : List ℕ} {at n : ℕ} (ready :
   length-entries : length entries ≡ n
   length-entries = length-part list at n (ready .list-room)
 
-  pub written-none : {next : ℕ} → next ≡ ifLt 0 n (slotOf s n 0) s → Written old from s list at n old 0 0 next
-  written-none e = record { passed = passed-none e; front = paste-zero old from (spread s entries) }
+  pub written-none : {position : Quotient} → Stands s n 0 position → Written old from s list at n old 0 0 (position .whole)
+  written-none here = record {
+    passed = passed-none (stands-slot here) (stands-end here (omega arith));
+    front = paste-zero old from (spread s entries);
+  }
 
   module _ {slots : List ℕ} {i k next : ℕ} (w : Written old from s list at n slots i k next) where
     written-more : (v : ℕ) → i < s → v ≡ getD (spread s entries) i 0 → set slots (from + i) v ≡ paste old from (spread s entries) (i + 1)
@@ -100,10 +109,12 @@ module _ {old : List ℕ} {from s : ℕ} {list : List ℕ} {at n : ℕ} (ready :
         rw (w .front, e, add-one i)
         (paste-suc old from (spread s entries) i 0 (omega (arith, ready .slots-room)) (omega (arith, length-spread s entries)))
 
-    pub written-entry : i < s → i ≡ next → {later : ℕ} → later ≡ ifLt (k + 1) n (slotOf s n (k + 1)) s
-        → Written old from s list at n (set slots (from + i) (getD list (at + k) 0)) (i + 1) (k + 1) later
-    written-entry more e le = record {
-      passed = passed-entry (w .passed) more (slotOf-positions s n (ready .fit)) e le;
+    pub written-entry : i < s → i ≡ next → {later : Quotient} → Stands s n (k + 1) later
+        → Written old from s list at n (set slots (from + i) (getD list (at + k) 0)) (i + 1) (k + 1) (later .whole)
+    written-entry more e there = record {
+      passed =
+          passed-entry (w .passed) more (slotOf-positions s n (ready .fit)) e (stands-slot there)
+          (stands-end there (omega (arith, entry-left (w .passed) more e)));
       front =
           written-more (getD list (at + k) 0) more
           (sym

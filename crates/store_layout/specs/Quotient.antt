@@ -15,9 +15,9 @@ added n p q =
     record { whole = p .whole + q .whole; rest = p .rest + q .rest }
     record { whole = p .whole + q .whole + 1; rest = p .rest + q .rest - n }
 
--- Of n entries in s slots, entry k stands in slot k × s / n. Where there is no entry, the position is behind the last slot.
+-- Of n entries in s slots, entry k stands in slot (2k + 1) × s / (2n). Where there is no entry, the position is behind the last slot.
 unfoldable pub positionOf : ℕ → ℕ → ℕ → Quotient
-positionOf s n k = ifLt 0 n (divided (k * s) n) record { whole = s; rest = 0 }
+positionOf s n k = ifLt 0 n (divided ((2 * k + 1) * s) (2 * n)) record { whole = s; rest = 0 }
 
 -- A position is that of entry k.
 pub record Stands (s n k : ℕ) (position : Quotient) : Type 0 where

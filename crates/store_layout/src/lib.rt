@@ -44,7 +44,7 @@ impl Quotient {
 }
 
 // x divided by n; by 0 it is 0, and everything remains.
-pub fn divide(x: usize, n: usize) -> Quotient
+fn divide(x: usize, n: usize) -> Quotient
     ensures { λ r. ⌜ r ≡ divided x n ⌝ }
 {
     if n == 0 {
@@ -56,14 +56,31 @@ pub fn divide(x: usize, n: usize) -> Quotient
     }
 }
 
-// The position of the first of n entries in a leaf of s slots, or s where there is none. Those of the others follow by adding s divided by n.
-pub fn first_position(s: usize, n: usize) -> Quotient
+// What is added to the position of an entry to get that of the next, where n entries stand in s slots: 2s divided by 2n.
+pub fn position_step(s: usize, n: usize) -> Quotient
+    requires { ⌜ s < 2 ^ 32 ⌝ }
+    ensures { λ r. ⌜ r ≡ divided (2 * s) (2 * n) ⌝ }
+{
+    let by = divide(s, n);
+    Quotient {
+        whole: by.whole,
+        rest: 2 * by.rest,
+    }
+}
+
+// The position of the first of n entries in s slots, which is half the step, or s where there is none.
+pub fn first_position(s: usize, n: usize, step: Quotient) -> Quotient
+    requires step { ⌜ step ≡ divided (2 * s) (2 * n) ⌝ }
+    requires small { ⌜ (n < 2 ^ 32) × (s < 2 ^ 32) ⌝ }
     ensures { λ r. ⌜ r ≡ positionOf s n 0 ⌝ }
 {
     if n == 0 {
         return Quotient { whole: s, rest: 0 };
     }
-    Quotient { whole: 0, rest: 0 }
+    Quotient {
+        whole: step.whole / 2,
+        rest: step.whole % 2 * n + step.rest / 2,
+    }
 }
 
 // Writes n entries of the list, from `at` on, into s slots from `from` on: each slot once, from left to right, an entry or 0.
@@ -74,15 +91,15 @@ fn spread_leaf(slots: &mut [u64], from: usize, s: usize, list: &[u64], at: usize
         ++ spread s (take n (drop at (now (list .entry))))
         ++ drop (from + s) (now (slots .entry)) ⌝ }
 {
-    let step = divide(s, n);
-    let mut position = first_position(s, n);
+    let step = position_step(s, n);
+    let mut position = first_position(s, n, step);
     let mut i: usize = 0;
     let mut k: usize = 0;
     while i < s {
         if i == position.whole {
             slots[from + i] = list[at + k];
             k += 1;
-            position = position.plus(step, n);
+            position = position.plus(step, 2 * n);
         } else {
             slots[from + i] = 0;
         }

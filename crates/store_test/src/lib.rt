@@ -32,23 +32,23 @@ fn entries_in(slots: &[u64], from: usize, len: usize) -> usize
 }
 
 // The s slots from `from` on hold n entries at the places of the leaf rule, and 0 in every other slot: there are n entries, and no place is
-// empty.
+// empty. The division stands before the count, so that the machine does both at once.
 fn leaf_is_spread(slots: &[u64], from: usize, s: usize, n: usize) -> bool
     requires { ⌜ LeafTestReady (now slots) from s n ⌝ }
     ensures { λ r. ⌜ r ≡ leafTest s n (take s (drop from (now (slots .entry)))) ⌝ }
 {
+    let step = store_layout::position_step(s, n);
+    let mut position = store_layout::first_position(s, n, step);
     if entries_in(slots, from, s) != n {
         return false;
     }
-    let step = store_layout::divide(s, n);
-    let mut position = store_layout::first_position(s, n);
     let mut k: usize = 0;
     while k < n {
         let slot = position.whole;
         if slots[from + slot] == 0 {
             return false;
         }
-        position = position.plus(step, n);
+        position = position.plus(step, 2 * n);
         k += 1;
     }
     true

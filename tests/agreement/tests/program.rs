@@ -1,5 +1,5 @@
-//! The proved program on lines: document 01's cases with the answers that it
-//! states, and long random histories beside the second implementation.
+//! The proved program on lines: document 01's cases with the answers that it and
+//! document 02 state, and long random histories beside the second implementation.
 
 use agreement::histories::{BORDER, FULL, SHORT};
 use agreement::lines;
@@ -49,7 +49,8 @@ fn entries(n: usize) -> Vec<String> {
     lines
 }
 
-/// "Input" and "Output" of document 01.
+/// "Input" and "Output" of document 01, where by document 02, F-2, the second
+/// entry moves to the last slot.
 #[test]
 fn worked_example() {
     let input = strings(&["010000000000000000000A", "0400000001", "010001000000000000000B", "05"]);
@@ -59,7 +60,7 @@ fn worked_example() {
         "81000002",
         "85000002",
         "9000030002",
-        "9100000002000000000000000A000000000000000B0000000000000000",
+        "9100000002000000000000000A0000000000000000000000000000000B",
     ];
     assert_eq!(answers(&input), output);
 }
@@ -147,7 +148,7 @@ fn clear_keeps_the_waiting_tape() {
         "81000002",
         "85000002",
         "9000030002",
-        "9100000002000000000000000A000000000000000B0000000000000000",
+        "9100000002000000000000000A0000000000000000000000000000000B",
         "81070002",
     ];
     assert_eq!(answers(&input), output);

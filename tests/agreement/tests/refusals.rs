@@ -1,7 +1,8 @@
-//! Damaged stores, wrong lengths, tapes that end at every place, and answer
-//! slices that are too short, on both.
+//! Damaged stores, stores by the former leaf rule, wrong lengths, tapes that end
+//! at every place, and answer slices that are too short, on both.
 
 use agreement::{proved, Both, Call, Store};
+use reference::layout::{Node, Shape, COUNTS, ROOT, SIZE, SLOTS};
 use reference::random::SplitMix64;
 
 fn tape(random: &mut SplitMix64) -> Vec<u32> {
@@ -23,19 +24,24 @@ fn sheet(seed: u64, n: usize) -> Store {
     both.store
 }
 
-/// The six calls on a store, each from the start.
-fn all_calls(seed: u64, store: &Store) {
+/// The six calls on a store, each from the start: the numbers of their causes. A
+/// refused call leaves the store as it was.
+fn all_calls(seed: u64, store: &Store) -> [u64; 6] {
     let words = tape(&mut SplitMix64::new(seed));
-    for call in [
+    [
         Call::Check,
         Call::Insert { rank: 0, entry: 3, tape: words.clone() },
-        Call::Delete { rank: 0, tape: words.clone() },
+        Call::Delete { rank: 0, tape: words },
         Call::Read { first: 0, last: 0, output: vec![5; 2] },
         Call::Place { rank: 0 },
         Call::Clear,
-    ] {
-        Both::new(seed, store.clone()).call(call);
-    }
+    ]
+    .map(|call| {
+        let mut both = Both::new(seed, store.clone());
+        let [number, _, _] = both.call(call);
+        assert!(number == 0 || both.store == *store);
+        number
+    })
 }
 
 #[test]
@@ -64,6 +70,68 @@ fn slots_changed() {
             all_calls(seed, &store);
         }
     }
+}
+
+/// The sheet of a list, a size and random balance entries.
+fn sheet_of_size(list: &[u64], m: usize, random: &mut SplitMix64) -> Store {
+    let shape = Shape::of(m);
+    let (mut slots, mut counts) = ([0; SLOTS], [0; COUNTS]);
+    counts[SIZE] = m as u16;
+    counts[ROOT] = list.len() as u16;
+    for depth in 0..shape.height {
+        for k in 1 << depth..2 << depth {
+            let candidates = shape.candidate_positions(depth, usize::from(counts[k]));
+            counts[2 * k] = (candidates.start + random.below(candidates.len())) as u16;
+            counts[2 * k + 1] = counts[k] - counts[2 * k];
+        }
+    }
+    shape.lay_out(Node::ROOT, &mut slots, &counts, list);
+    Store {
+        slots: slots.to_vec(),
+        counts: counts.to_vec(),
+    }
+}
+
+/// The store with the entries of each leaf moved to the slots ⌊k × s / n⌋.
+fn by_the_leaf_rule_of_01(sheet: &Store) -> Store {
+    let mut store = sheet.clone();
+    let shape = Shape::of(usize::from(sheet.counts[SIZE]));
+    for leaf in store.slots[..shape.slots()].chunks_exact_mut(shape.leaf_slots.max(1)) {
+        let entries: Vec<u64> = leaf.iter().copied().filter(|entry| *entry != 0).collect();
+        leaf.fill(0);
+        for (k, entry) in entries.iter().enumerate() {
+            leaf[k * leaf.len() / entries.len()] = *entry;
+        }
+    }
+    store
+}
+
+/// The leaf rule of document 01, which document 02, F-2, replaces: every call
+/// that tests the sheet meets cause 2, save where both rules give the same slots.
+/// They do only where every leaf is full or empty, so for N = M ≤ 64.
+#[test]
+fn leaf_rule_of_document_01() {
+    let mut random = SplitMix64::new(61);
+    let (mut accepted, mut refused) = (0, 0);
+    for n in 0..=1024 {
+        let list: Vec<u64> = (0..n).map(|_| random.entry()).collect();
+        for m in [n, n + random.below(n.max(1)), n + random.below(n.max(1)), (2 * n).max(1) - 1] {
+            let sheet = sheet_of_size(&list, m, &mut random);
+            assert_eq!(Both::new(61, sheet.clone()).call(Call::Check), [0, n as u64, 0], "N {n} M {m}");
+            let store = by_the_leaf_rule_of_01(&sheet);
+            let same = store == sheet;
+            assert_eq!(same, n == m && m <= 64, "N {n} M {m}");
+            let numbers = match (same, n) {
+                (false, _) => [2, 2, 2, 2, 2, 0],
+                (true, 0) => [0, 0, 4, 4, 4, 0],
+                (true, _) => [0; 6],
+            };
+            assert_eq!(all_calls(61, &store), numbers, "N {n} M {m}");
+            accepted += u32::from(same);
+            refused += u32::from(!same);
+        }
+    }
+    assert!(accepted > 0 && refused > 0, "{accepted} accepted, {refused} refused");
 }
 
 #[test]

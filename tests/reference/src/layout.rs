@@ -240,11 +240,11 @@ mod tests {
 
     #[test]
     fn a_leaf_is_spread_only_one_way() {
-        assert!(leaf_is_spread(&[5, 6, 0], 2));
-        assert!(!leaf_is_spread(&[5, 0, 6], 2));
+        assert!(leaf_is_spread(&[5, 0, 6], 2));
+        assert!(!leaf_is_spread(&[5, 6, 0], 2));
         assert!(!leaf_is_spread(&[5, 6, 7], 2));
-        assert!(!leaf_is_spread(&[0, 6, 0], 2));
-        assert!(!leaf_is_spread(&[5, 6, 0], 1));
+        assert!(!leaf_is_spread(&[0, 0, 6], 2));
+        assert!(!leaf_is_spread(&[5, 0, 6], 1));
         assert!(!leaf_is_spread(&[5, 6, 7], 4));
         assert!(leaf_is_spread(&[0, 0], 0) && leaf_is_spread(&[], 0));
     }

@@ -1,6 +1,7 @@
 //! The packed finishing sheet: a second implementation, to compare the proved
-//! one with. The law is the paper `01-scope.md`, cited here as "01"; every rule
-//! is written as its sentence reads, not in a shortened form.
+//! one with. The law is the paper `01-scope.md`, cited here as "01", with the
+//! leaf rule of request F-2 of `02-change-requests.md`, cited as "02"; every
+//! rule is written as its sentence reads, not in a shortened form.
 //!
 //! - [`coins`]: draws, from a tape of words or from given faces
 //! - [`sizes`]: what the size parameter M and the length N decide

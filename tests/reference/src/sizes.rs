@@ -96,13 +96,14 @@ pub const fn candidate_positions(n: usize, c: usize) -> Option<Range<usize>> {
     Some(first..first + c)
 }
 
-/// 01: "A leaf with n entries and s slots holds entry k (from 0) in slot
-/// ⌊k × s / n⌋ of the leaf." These slots in order, k from 0 to n − 1, found by
-/// adding s / n with its remainder, so with one division for the whole leaf.
+/// 02, F-2: "Entry k of n in s slots now stands in slot ⌊(2k + 1) × s / (2n)⌋."
+/// These slots in order, k from 0 to n − 1: the first is s / (2n) with its
+/// remainder, and each step adds twice that, so with one division for the whole
+/// leaf.
 #[derive(Clone, Copy, Debug)]
 pub struct Spread {
-    entries: usize,
     left: usize,
+    divisor: usize,
     slot: usize,
     remainder: usize,
     slot_step: usize,
@@ -111,14 +112,16 @@ pub struct Spread {
 
 impl Spread {
     pub fn new(entries: usize, slots: usize) -> Self {
-        let divisor = entries.max(1);
+        let divisor = 2 * entries.max(1);
+        let (slot, remainder) = (slots / divisor, slots % divisor);
+        let carry = usize::from(2 * remainder >= divisor);
         Spread {
-            entries,
             left: entries,
-            slot: 0,
-            remainder: 0,
-            slot_step: slots / divisor,
-            remainder_step: slots % divisor,
+            divisor,
+            slot,
+            remainder,
+            slot_step: 2 * slot + carry,
+            remainder_step: 2 * remainder - carry * divisor,
         }
     }
 }
@@ -135,8 +138,8 @@ impl Iterator for Spread {
         let slot = self.slot;
         self.slot += self.slot_step;
         self.remainder += self.remainder_step;
-        if self.remainder >= self.entries {
-            self.remainder -= self.entries;
+        if self.remainder >= self.divisor {
+            self.remainder -= self.divisor;
             self.slot += 1;
         }
         Some(slot)
@@ -239,15 +242,28 @@ mod tests {
         assert_eq!(size.candidates(57), 0);
     }
 
+    fn spread(n: usize, s: usize) -> Vec<usize> {
+        Spread::new(n, s).collect()
+    }
+
     #[test]
-    fn spread_is_the_floor_of_k_s_over_n() {
+    fn spread_by_its_formula() {
         for s in 0..70 {
             for n in 0..=s {
-                let slots: Vec<usize> = Spread::new(n, s).collect();
-                let floors: Vec<usize> = (0..n).map(|k| k * s / n).collect();
-                assert_eq!(slots, floors);
+                let floors: Vec<usize> = (0..n).map(|k| (2 * k + 1) * s / (2 * n)).collect();
+                assert_eq!(spread(n, s), floors);
             }
         }
+    }
+
+    #[test]
+    fn spread_by_hand() {
+        // The sheet printed in 01, with the second entry in the last slot.
+        assert_eq!(spread(2, 3), [0, 2]);
+        // 21/8, 63/8, 105/8 and 147/8.
+        assert_eq!(spread(4, 21), [2, 7, 13, 18]);
+        assert_eq!(spread(1, 1), [0]);
+        assert_eq!(spread(3, 3), [0, 1, 2]);
     }
 
     /// 01: "for every M to 2,047 and every allowed N: candidates always fit, no

@@ -8,6 +8,7 @@ use reference::calls::{self, Answer, Cause};
 use reference::layout::{COUNTS, SLOTS};
 use reference::random::SplitMix64;
 use reference::shares::Store;
+use reference::sizes::Size;
 
 /// What the six calls return on these slices with these arguments; only clear
 /// may change them, and it comes last.
@@ -218,6 +219,54 @@ fn cause_2_on_damaged_sheets() {
     }
     // Some changes lead to another sheet, as when one entry takes a new value.
     assert!(sheets > 100);
+}
+
+/// A store laid out by ⌊k × s / n⌋, the leaf rule of 01 that 02, F-2, replaces,
+/// is a sheet only where both rules give the same slots: where every leaf is
+/// full or empty, so for N = M ≤ 64.
+#[test]
+fn cause_2_by_the_leaf_rule_of_01() {
+    let mut random = SplitMix64::new(9);
+    let not_a_sheet = Answer::Refused(Cause::NotASheet);
+    let (mut accepted, mut refused) = (0, 0);
+    for n in 0..=1024 {
+        let list: Vec<u64> = (0..n).map(|_| random.entry()).collect();
+        for m in [n, n + random.below(n.max(1)), (2 * n).max(1) - 1] {
+            let sheet = lay_out(&list, m, |_, _, c| random.below(c));
+            assert_eq!(check(&sheet), Answer::Checked { n });
+            let mut store = by_the_leaf_rule_of_01(&sheet);
+            assert_eq!(store == sheet, n == m && m <= 64, "N {n} M {m}");
+            if store == sheet {
+                assert_eq!(check(&store), Answer::Checked { n });
+                accepted += 1;
+            } else {
+                let before = store.clone();
+                assert_eq!(insert(&mut store, 0, 5, &[0; 300]), not_a_sheet);
+                assert_eq!(delete(&mut store, 0, &[0; 300]), not_a_sheet);
+                assert!(store == before, "N {n} M {m}");
+                let (slots, counts) = (&mut store.slots[..], &mut store.counts[..]);
+                assert_eq!(all_calls(slots, counts, 0, 5), [2, 2, 2, 2, 2, 0]);
+                refused += 1;
+            }
+        }
+    }
+    assert!(accepted > 0 && refused > 0);
+}
+
+/// The store of a sheet with the entries of each leaf moved to the slots
+/// ⌊k × s / n⌋.
+fn by_the_leaf_rule_of_01(sheet: &Store) -> Store {
+    let mut store = sheet.clone();
+    let size = Size::new(m(sheet));
+    let used = &mut store.slots[..size.slots() as usize];
+    for leaf in used.chunks_exact_mut(size.leaf_slots().max(1)) {
+        let entries: Vec<u64> = leaf.iter().copied().filter(|&e| e != 0).collect();
+        leaf.fill(0);
+        for (k, &entry) in entries.iter().enumerate() {
+            leaf[k * leaf.len() / entries.len()] = entry;
+        }
+    }
+    store
 }
 
 /// One or two small changes of a store.

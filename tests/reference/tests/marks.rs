@@ -1,5 +1,6 @@
-//! The cases of 01, "Marks round the course", that need calls or lines. Those of
-//! sizes, candidates and draws stand beside the code in `sizes` and `coins`.
+//! The cases of 01, "Marks round the course", that need calls or lines, with the
+//! leaf rule of 02, F-2. Those of sizes, candidates and draws stand beside the
+//! code in `sizes` and `coins`.
 
 mod common;
 
@@ -26,12 +27,14 @@ fn slots_of_a_sheet_end_where_the_size_says() {
         // The last candidate each time, so that any sheet would do.
         let store = lay_out(&list, m, |_, _, c| c - 1);
         assert_eq!(check(&store), Answer::Checked { n: list.len() });
-        assert_eq!(Size::new(m).slots(), slots);
-        let leaf = Size::new(m).leaf_slots();
-        let used = &store.slots[..slots as usize];
-        // The last leaf has an entry in its first slot; nothing follows it.
-        assert_ne!(used[used.len() - leaf], 0);
-        assert!(store.slots[slots as usize..].iter().all(|&slot| slot == 0));
+        let size = Size::new(m);
+        assert_eq!(size.slots(), slots);
+        // The last leaf has the last entry in its slot; nothing follows it.
+        let n = usize::from(store.counts[2 * size.leaves() - 1]);
+        let leaf = slots as usize - size.leaf_slots();
+        let last = leaf + leaf_slot(n - 1, n, size.leaf_slots());
+        assert_eq!(store.slots[last], list[list.len() - 1]);
+        assert!(store.slots[last + 1..].iter().all(|&slot| slot == 0));
     }
 }
 
@@ -54,6 +57,8 @@ fn delete_with_n_5() {
     assert_eq!(store, lay_out(&[11, 12, 13, 14], 7, |_, _, _| 0));
 }
 
+/// 02, F-2: "in the printed case of document 01 the second entry moves to the
+/// last slot."
 #[test]
 fn the_sheet_printed_in_the_paper() {
     let input = [
@@ -63,7 +68,7 @@ fn the_sheet_printed_in_the_paper() {
         "05",
     ];
     let output = "81000001\n84000001\n81000002\n85000002\n9000030002\n\
-                  9100000002000000000000000A000000000000000B0000000000000000\n";
+                  9100000002000000000000000A0000000000000000000000000000000B\n";
     let mut program = Program::new();
     let mut out = Vec::new();
     for line in input {

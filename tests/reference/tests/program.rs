@@ -9,9 +9,10 @@ use reference::shares::Store;
 use std::io::{BufReader, Write};
 use std::process::{Command, Stdio};
 
+/// The case printed in 01, by the leaf rule of 02, F-2.
 const INPUT: &str = "010000000000000000000A\n0400000001\n010001000000000000000B\n05\n";
 const OUTPUT: &str = "81000001\n84000001\n81000002\n85000002\n9000030002\n\
-                      9100000002000000000000000A000000000000000B0000000000000000\n";
+                      9100000002000000000000000A0000000000000000000000000000000B\n";
 
 /// All that the program answers to this input.
 fn answers(input: impl AsRef<[u8]>) -> String {

@@ -8,7 +8,7 @@ use native.Mathlib.Omega.{arith}
 use borrow.Author.Needs.{needs}
 use Rattle.store_layout.specs.LeafLoop.{Written, entry-left, written-none, written-entry, written-gap, written-all}
 use Rattle.store_layout.specs.Quotient.{Stands}
-use Rattle.store_layout.specs.QuotientLaws.{first-slot, next-room, next-stands, next-slot}
+use Rattle.store_layout.specs.QuotientLaws.{next-room, next-stands}
 use Rattle.store_layout.proofs.spread_leaf.Statement.{statement}
 use Rattle.store_layout.proofs.spread_leaf.Tie as tie
 
@@ -19,17 +19,19 @@ Inv-loop slots₀ from s list at n step position₀ i₀ k₀ slots position i k
 abbrev μ-loop : tie.MeasureT-loop
 μ-loop slots₀ from s list at n step position₀ i₀ k₀ slots position i k = s - i
 
-divide-requires : tie.Need-divide-requires Inv-loop μ-loop
-divide-requires c κs = search needs
+position-step-requires : tie.Need-position-step-requires Inv-loop μ-loop
+position-step-requires c κs = search needs
 
 first-position-requires : tie.Need-first-position-requires Inv-loop μ-loop
-first-position-requires c κs = search needs
+first-position-requires c κs =
+    let start = c .before .before .before in
+    (c .position-step .ensures, (omega (arith, start .pre .fit, start .pre .small), start .pre .small))
 
 loop-holds : tie.Need-loop-holds Inv-loop μ-loop
 loop-holds c =
     let b = c .before .before .before .before in
     let here : Stands (b .args .s) (b .args .n) 0 (c .first-position .result) = record { is = c .first-position .ensures } in
-    (written-none (b .pre) (first-slot here), refl, here)
+    (written-none (b .pre) here, refl, here)
 
 add-slots : tie.Need-add-slots Inv-loop μ-loop
 add-slots c = search needs
@@ -53,11 +55,14 @@ slice-write-slots c = search needs
 add-k : tie.Need-add-k Inv-loop μ-loop
 add-k c = search needs
 
+mul-plus : tie.Need-mul-plus Inv-loop μ-loop
+mul-plus c = search needs
+
 plus-requires : tie.Need-plus-requires Inv-loop μ-loop
 plus-requires c κs =
     let l = c .before .before .before .before in
     let ready = l .before .before .before .before .before .pre in
-    next-room (l .loop .inv .2) (l .before .before .divide .ensures) (entry-left (l .loop .inv .0 .passed) (omega arith) (c .before .if1 .taken))
+    next-room (l .loop .inv .2) (l .before .before .position-step .ensures) (entry-left (l .loop .inv .0 .passed) (omega arith) (c .before .if1 .taken))
     (ready .fit) (ready .small)
 
 add-slots-3 : tie.Need-add-slots-3 Inv-loop μ-loop
@@ -80,14 +85,14 @@ loop-again c =
     let l = c .before .before .before in
     let ready = l .before .before .before .before .before .pre in
     let inv = l .loop .inv in
-    let by = l .before .before .divide .ensures in
+    let by = l .before .before .position-step .ensures in
     ⊎-elim
     (λ w.
-    let more = entry-left (inv .0 .passed) (omega arith) (w .0 .taken) in
+    let there = next-stands (inv .2) by (entry-left (inv .0 .passed) (omega arith) (w .0 .taken)) (w .2 .ensures) in
     rw (w .3, w .4, w .5) (
-      written-entry ready (inv .0) (omega arith) (w .0 .taken) (next-slot (inv .2) by more (w .2 .ensures)),
+      written-entry ready (inv .0) (omega arith) (w .0 .taken) there,
       simp length-set (inv .1),
-      next-stands (inv .2) by more (w .2 .ensures),
+      there,
     ))
     (λ w. rw (w .1, w .2, w .3) (written-gap ready (inv .0) (omega arith) (w .0 .left), simp length-set (inv .1), inv .2))
     (c .if1 .came)
@@ -105,7 +110,7 @@ spread-leaf-spec =
     (tie.spec
     Inv-loop
     μ-loop
-    divide-requires
+    position-step-requires
     first-position-requires
     loop-holds
     add-slots
@@ -115,6 +120,7 @@ spread-leaf-spec =
     mul-slots-2
     slice-write-slots
     add-k
+    mul-plus
     plus-requires
     add-slots-3
     mul-slots-3

@@ -31,20 +31,20 @@ inside : (c : tie.In-loop Inv-loop μ-loop)
     → let a = c .before .before .before .before .before .before .before .args in a .from + c .before .loop .position .whole < length (a .slots .now)
 inside c = omega (arith, ready c .slots-room, stands-inside (c .before .loop .inv .1) (c .loop-test .taken) (ready c .fit))
 
-entries-in-requires : tie.Need-entries-in-requires Inv-loop μ-loop
-entries-in-requires c κs = search needs
-
-returns : tie.Need-returns Inv-loop μ-loop
-returns c = sym (other-number (c .before .before .before .pre) (c .before .entries-in .ensures) (c .if1 .taken))
-
-divide-requires : tie.Need-divide-requires Inv-loop μ-loop
-divide-requires c κs = search needs
+position-step-requires : tie.Need-position-step-requires Inv-loop μ-loop
+position-step-requires c κs = search needs
 
 first-position-requires : tie.Need-first-position-requires Inv-loop μ-loop
 first-position-requires c κs = search needs
 
+entries-in-requires : tie.Need-entries-in-requires Inv-loop μ-loop
+entries-in-requires c κs = search needs
+
+returns : tie.Need-returns Inv-loop μ-loop
+returns c = sym (other-number (c .before .before .before .before .before .pre) (c .before .entries-in .ensures) (c .if1 .taken))
+
 loop-holds : tie.Need-loop-holds Inv-loop μ-loop
-loop-holds c = (λ j h. absurd (not-suc-le-zero h), record { is = c .first-position .ensures }, omega arith)
+loop-holds c = (λ j h. absurd (not-suc-le-zero h), record { is = c .before .before .first-position .ensures }, omega arith)
 
 add-if2 : tie.Need-add-if2 Inv-loop μ-loop
 add-if2 c = omega (arith, inside c)
@@ -62,10 +62,13 @@ returns-2 c =
     sym
     (place-empty (ready t) (l .k) (t .loop-test .taken) (rw (← stands-slot (l .inv .1) (t .loop-test .taken)) (c .if2 .taken)))
 
+mul-plus : tie.Need-mul-plus Inv-loop μ-loop
+mul-plus c = search needs
+
 plus-requires : tie.Need-plus-requires Inv-loop μ-loop
 plus-requires c κs =
     let t = c .before .before in
-    next-room (t .before .loop .inv .1) (t .before .before .before .divide .ensures) (t .loop-test .taken) (ready t .fit) (ready t .small)
+    next-room (t .before .loop .inv .1) (t .before .before .before .before .before .position-step .ensures) (t .loop-test .taken) (ready t .fit) (ready t .small)
 
 add-k : tie.Need-add-k Inv-loop μ-loop
 add-k c = search needs
@@ -80,16 +83,16 @@ loop-again c =
     let a = t .before .before .before .before .before .before .before .args in (
       below-more (λ j. 0 < getD (a .slots .now) (a .from + slotOf (a .s) (a .n) j) 0) (l .k) (l .inv .0)
           (rw (← stands-slot (l .inv .1) (t .loop-test .taken)) (omega (arith, c .before .if2 .left))),
-      next-stands (l .inv .1) (t .before .before .before .divide .ensures) (t .loop-test .taken) (c .plus .ensures),
+      next-stands (l .inv .1) (t .before .before .before .before .before .position-step .ensures) (t .loop-test .taken) (c .plus .ensures),
       omega arith,
     )
 
 returns-3 : tie.Need-returns-3 Inv-loop μ-loop
 returns-3 c =
     let l = c .before in
-    let e = l .before .before .before in
+    let e = l .before in
     sym
-    (places-full (e .before .before .before .pre) (e .before .entries-in .ensures) (omega (arith, e .if1 .left))
+    (places-full (e .before .before .before .before .before .pre) (e .before .entries-in .ensures) (omega (arith, e .if1 .left))
     (λ k h. l .loop .inv .0 k (omega (arith, h, c .loop-test .left))))
 
 pub leaf-is-spread-spec : {M : Type 1} → statement M
@@ -98,15 +101,16 @@ leaf-is-spread-spec =
     (tie.spec
     Inv-loop
     μ-loop
+    position-step-requires
+    first-position-requires
     entries-in-requires
     returns
-    divide-requires
-    first-position-requires
     loop-holds
     add-if2
     mul-if2
     shared-slice-read-if2
     returns-2
+    mul-plus
     plus-requires
     add-k
     loop-less

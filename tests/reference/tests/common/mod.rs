@@ -38,6 +38,11 @@ fn first_candidate(n: usize, c: usize) -> usize {
     1 + (n + 1) / 2 - (c + 1) / 2
 }
 
+/// The slot, from 0, of entry `k` of `n` in a leaf of `s` slots (02, F-2).
+pub fn leaf_slot(k: usize, n: usize, s: usize) -> usize {
+    (2 * k + 1) * s / (2 * n)
+}
+
 /// Lays out a list by size and balance entries. `balance` is given the range,
 /// its length and its number of candidates, and tells which candidate, from 0,
 /// is the balance entry.
@@ -67,7 +72,7 @@ fn lay_out_range(
         assert!(n <= slots, "leaf {range} of M {m} holds {n}");
         let start = (range - (1 << depth)) * slots;
         for (k, &entry) in list.iter().enumerate() {
-            store.slots[start + k * slots / n] = entry;
+            store.slots[start + leaf_slot(k, n, slots)] = entry;
         }
         return;
     }
@@ -274,7 +279,7 @@ impl Model {
             let slots = leaf_slots(self.m);
             let start = (range - (1 << depth)) * slots;
             for (k, named) in list.iter().enumerate() {
-                store.slots[start + k * slots / list.len()] = named.entry;
+                store.slots[start + leaf_slot(k, list.len(), slots)] = named.entry;
             }
             return;
         }
