@@ -1,33 +1,26 @@
 -- The loop over the slots of a leaf, from left to right, by any positions of its entries: which entries are behind after some slots, and
 -- what is written by then.
-use mathlib.Core.Path.{_≡_, sym, ap, _∙_}
-use mathlib.Core.List.{List, _++_}
+use mathlib.Core.Path.{_≡_, refl, sym, ap, _∙_}
+use mathlib.Core.List.{List, _++_, append-assoc}
 use mathlib.Core.Logic.{⊎-elim}
-use Prim.Native.Nat.{ℕ, _+_, _≤_, _<_}
-use lib.ListN.{length, getD, set, take, drop}
-use lib.Seq.{paste, paste-zero, paste-suc, take-all}
-use native.Mathlib.Nat.{eq-or-lt-of-le, le-of-eq, not-suc-le-zero}
+use Prim.Native.Nat.{ℕ, _+_, _-_, _≤_, _<_}
+use lib.ListN.{length, getD, set, take, drop, length-append, length-drop}
+use lib.Seq.{paste, paste-zero, paste-suc, length-paste-head, length-take-le, take-all, take-at, drop-at, drop-drop}
+use native.Mathlib.Nat.{eq-or-lt-of-le, le-of-eq, le-refl, not-suc-le-zero}
 use native.Mathlib.Numerals.{add-one}
 use native.Mathlib.Omega.{arith}
 use borrow.Author.Count.{below-more}
 use Rattle.base.specs.CaseLaws.{lt-or-ge}
 use Rattle.base.specs.ListLaws.{length-part, part-at}
+use Rattle.store_layout.specs.declared.Leaf.{Leaf}
+use Rattle.store_layout.specs.declared.Next.{Next}
 use Rattle.store_layout.specs.declared.Quotient.{Quotient}
 use Rattle.store_layout.specs.Leaf.{slotOf, Positions, spread}
 use Rattle.store_layout.specs.Quotient.{Stands}
 use Rattle.store_layout.specs.QuotientLaws.{stands-slot, stands-end}
 use Rattle.store_layout.specs.Ready.{LeafReady}
+use Rattle.store_layout.specs.Pass.{ruleOf, writtenTo, Passed, InFront}
 use Rattle.store_layout.specs.LeafLaws.{slotOf-positions, length-spread, spread-entry, spread-gap}
-
--- After i of s slots: k of the n entries are behind, the others ahead, and `next` is the slot of entry k, or past the slots where there is
--- none.
-pub record Passed (position : ℕ → ℕ) (n s i k next : ℕ) : Type 0 where
-  pub inside : i ≤ s
-  pub used : k ≤ n
-  pub behind : (j : ℕ) → j < k → position j < i
-  pub ahead : k < n → i ≤ position k
-  pub next-is : k < n → next ≡ position k
-  pub past : n ≤ k → s ≤ next
 
 module _ {position : ℕ → ℕ} {n s : ℕ} where
   pub passed-none : {next : ℕ} → (0 < n → next ≡ position 0) → (n ≤ 0 → s ≤ next) → Passed position n s 0 0 next
@@ -85,55 +78,133 @@ module _ {position : ℕ → ℕ} {n s : ℕ} where
 
 -- ---- writing a leaf
 
--- The n entries of the list from `at` on, in s slots from `from` on: the first i slots are written, those behind them are as they were.
-pub record Written (old : List ℕ) (from s : ℕ) (list : List ℕ) (at n : ℕ) (slots : List ℕ) (i k next : ℕ) : Type 0 where
-  pub passed : Passed (slotOf s n) n s i k next
-  pub front : slots ≡ paste old from (spread s (take n (drop at list))) i
+-- So far the slots are the old ones with the first i slots of the leaf written.
+pub record SoFar (leaf : Leaf) (list old : List ℕ) (i : ℕ) (next : Next) (slots : List ℕ) : Type 0 where
+  pub start : LeafReady leaf old list
+  pub front : InFront leaf list i next slots
+  pub written : slots ≡ writtenTo leaf list i old
 
-module _ {old : List ℕ} {from s : ℕ} {list : List ℕ} {at n : ℕ} (ready : LeafReady old from s list at n) where
+-- What is written up to i is written up to j with more of the same.
+paste-again : (d : List ℕ) (at : ℕ) (leaf : List ℕ) (i j : ℕ) → i ≤ j → j ≤ length leaf → at + j ≤ length d
+    → paste (paste d at leaf i) at leaf j ≡ paste d at leaf j
+paste-again d at leaf i j l m room =
+    let front : length (take at d) ≡ at = length-take-le at d (omega arith) in
+    let size : length (take at d ++ take i leaf) ≡ at + i = length-paste-head d at leaf i (omega arith) (omega arith) in
+    let before : take at (paste d at leaf i) ≡ take at d
+    = ap (take at) (append-assoc (take at d) (take i leaf) (drop (at + i) d)) ∙ take-at (take at d) (take i leaf ++ drop (at + i) d) at front in
+    let behind : drop (at + i) (paste d at leaf i) ≡ drop (at + i) d = drop-at (take at d ++ take i leaf) (drop (at + i) d) (at + i) size in
+    let sum : at + j ≡ (at + i) + (j - i) = omega arith in
+    let after : drop (at + j) (paste d at leaf i) ≡ drop (at + j) d
+    = rw (sum, ← drop-drop (j - i) (at + i) (paste d at leaf i), behind) (drop-drop (j - i) (at + i) d) in
+    rw (before, after)
+
+module _ (leaf : Leaf) (list : List ℕ) where
+  abbrev s : ℕ
+  s = leaf .slots
+
+  abbrev n : ℕ
+  n = leaf .entries
+
   abbrev entries : List ℕ
-  entries = take n (drop at list)
+  entries = take n (drop (leaf .at) list)
 
-  length-entries : length entries ≡ n
-  length-entries = length-part list at n (ready .list-room)
+  rule-length : length (ruleOf leaf list) ≡ s
+  unfolding ruleOf
+  rule-length = length-spread s entries
 
-  pub written-none : {position : Quotient} → Stands s n 0 position → Written old from s list at n old 0 0 (position .whole)
-  written-none here = record {
+  -- What the first i slots have and then the first j is what the first j have.
+  written-on : {old slots slots′ : List ℕ} {i j : ℕ} → LeafReady leaf old list → i ≤ j → j ≤ s → slots ≡ writtenTo leaf list i old
+      → slots′ ≡ writtenTo leaf list j slots → slots′ ≡ writtenTo leaf list j old
+  unfolding writtenTo
+  written-on {old} {i = i} {j = j} ready l m e e′ =
+      e′ ∙ rw e (paste-again old (leaf .from) (ruleOf leaf list) i j l (omega (arith, rule-length)) (omega (arith, ready .slots-room)))
+
+  written-length : {slots : List ℕ} (i : ℕ) → LeafReady leaf slots list → i ≤ s → length (writtenTo leaf list i slots) ≡ length slots
+  unfolding writtenTo
+  written-length {slots} i ready l =
+      length-append (take (leaf .from) slots ++ take i (ruleOf leaf list)) (drop (leaf .from + i) slots)
+      ∙ omega (
+        arith,
+        length-paste-head slots (leaf .from) (ruleOf leaf list) i (omega (arith, ready .slots-room)) (omega (arith, rule-length)),
+        length-drop (leaf .from + i) slots,
+        ready .slots-room,
+      )
+
+  pub front-none : {slots : List ℕ} {position : Quotient} → LeafReady leaf slots list → Stands s n 0 position
+      → InFront leaf list 0 (record { k = 0; position = position }) slots
+  unfolding writtenTo
+  front-none {slots} ready here = record {
+    ready = ready;
+    written = paste-zero slots (leaf .from) (ruleOf leaf list);
     passed = passed-none (stands-slot here) (stands-end here (omega arith));
-    front = paste-zero old from (spread s entries);
+    stands = here;
   }
 
-  module _ {slots : List ℕ} {i k next : ℕ} (w : Written old from s list at n slots i k next) where
-    written-more : (v : ℕ) → i < s → v ≡ getD (spread s entries) i 0 → set slots (from + i) v ≡ paste old from (spread s entries) (i + 1)
-    written-more v more e =
-        rw (w .front, e, add-one i)
-        (paste-suc old from (spread s entries) i 0 (omega (arith, ready .slots-room)) (omega (arith, length-spread s entries)))
+  module _ {slots : List ℕ} {i : ℕ} {next : Next} (w : InFront leaf list i next slots) (more : i < s) where
+    -- slot i is written
+    write-is : (v : ℕ) → v ≡ getD (ruleOf leaf list) i 0 → set slots (leaf .from + i) v ≡ writtenTo leaf list (i + 1) slots
+    unfolding writtenTo
+    write-is v e =
+        ap (λ (x : List ℕ). set x (leaf .from + i) v) (w .written)
+        ∙ rw (e, add-one i)
+        (paste-suc slots (leaf .from) (ruleOf leaf list) i 0 (omega (arith, w .ready .slots-room)) (omega (arith, rule-length)))
 
-    pub written-entry : i < s → i ≡ next → {later : Quotient} → Stands s n (k + 1) later
-        → Written old from s list at n (set slots (from + i) (getD list (at + k) 0)) (i + 1) (k + 1) (later .whole)
-    written-entry more e there = record {
-      passed =
-          passed-entry (w .passed) more (slotOf-positions s n (ready .fit)) e (stands-slot there)
-          (stands-end there (omega (arith, entry-left (w .passed) more e)));
-      front =
-          written-more (getD list (at + k) 0) more
-          (sym
-          (rw (entry-here (w .passed) more e)
-          (spread-entry s n entries length-entries (ready .fit) k (entry-left (w .passed) more e)
-          ∙ part-at list at n k 0 (entry-left (w .passed) more e))));
-    }
+    -- the pass is in front of the next slot
+    further : {slots′ : List ℕ} {later : Next} → slots′ ≡ writtenTo leaf list (i + 1) slots
+        → Passed (slotOf s n) n s (i + 1) (later .k) (later .position .whole) → Stands s n (later .k) (later .position)
+        → (slots′ ≡ writtenTo leaf list (i + 1) slots) × InFront leaf list (i + 1) later slots′
+    further {slots′} e passed there =
+        let size : length slots′ ≡ length slots = ap length e ∙ written-length (i + 1) (w .ready) (omega arith) in
+        let ready : LeafReady leaf slots′ list = record {
+          slots-room = omega (arith, w .ready .slots-room, size);
+          list-room = w .ready .list-room;
+          fit = w .ready .fit;
+          small = w .ready .small;
+        } in
+        let written : slots′ ≡ writtenTo leaf list (i + 1) slots′ = e ∙ sym (written-on (w .ready) (le-refl (i + 1)) (omega arith) e refl) in
+        (e, record { ready = ready; written = written; passed = passed; stands = there })
 
-    pub written-gap : i < s → (i ≡ next → ⊥) → Written old from s list at n (set slots (from + i) 0) (i + 1) k next
-    written-gap more ne = record {
-      passed = passed-gap (w .passed) more (slotOf-positions s n (ready .fit)) ne;
-      front =
-          written-more 0 more
-          (sym (spread-gap s n entries length-entries i more (gap-here (w .passed) more (slotOf-positions s n (ready .fit)) ne)));
-    }
+    pub entry-written : i ≡ next .position .whole → {later : Quotient} → Stands s n (next .k + 1) later
+        → (set slots (leaf .from + i) (getD list (leaf .at + next .k) 0) ≡ writtenTo leaf list (i + 1) slots)
+        × InFront leaf list (i + 1) (record { k = next .k + 1; position = later }) (set slots (leaf .from + i) (getD list (leaf .at + next .k) 0))
+    unfolding ruleOf
+    entry-written e there =
+        let left = entry-left (w .passed) more e in
+        let rule = slotOf-positions s n (w .ready .fit) in
+        further
+        (write-is (getD list (leaf .at + next .k) 0)
+        (sym (rw (entry-here (w .passed) more e)
+        (spread-entry s n entries (length-part list (leaf .at) n (w .ready .list-room)) (w .ready .fit) (next .k) left ∙ part-at list (leaf .at) n (next .k) 0 left))))
+        (passed-entry (w .passed) more rule e (stands-slot there) (stands-end there (omega (arith, left))))
+        there
 
-    pub written-all : s ≤ i → slots ≡ take from old ++ spread s entries ++ drop (from + s) old
-    written-all h =
-        let e : i ≡ s = omega (arith, w .passed .inside) in
-        w .front
-        ∙ ap (λ (x : ℕ). paste old from (spread s entries) x) e
-        ∙ rw (take-all s (spread s entries) (le-of-eq (length-spread s entries)))
+    pub gap-written : (i ≡ next .position .whole → ⊥)
+        → (set slots (leaf .from + i) 0 ≡ writtenTo leaf list (i + 1) slots) × InFront leaf list (i + 1) next (set slots (leaf .from + i) 0)
+    unfolding ruleOf
+    gap-written ne =
+        let rule = slotOf-positions s n (w .ready .fit) in
+        further
+        (write-is 0 (sym (spread-gap s n entries (length-part list (leaf .at) n (w .ready .list-room)) i more (gap-here (w .passed) more rule ne))))
+        (passed-gap (w .passed) more rule ne)
+        (w .stands)
+
+  -- ---- the loop
+
+  pub so-far-none : {slots : List ℕ} {position : Quotient} → LeafReady leaf slots list → Stands s n 0 position
+      → SoFar leaf list slots 0 (record { k = 0; position = position }) slots
+  so-far-none ready here = let front = front-none ready here in record { front = front; written = front .written; start = ready }
+
+  pub so-far-more : {old slots slots′ : List ℕ} {i : ℕ} {next later : Next} → SoFar leaf list old i next slots → i < s
+      → slots′ ≡ writtenTo leaf list (i + 1) slots → InFront leaf list (i + 1) later slots′ → SoFar leaf list old (i + 1) later slots′
+  so-far-more w more e front = record {
+    front = front;
+    written = written-on (w .start) (omega arith) (omega arith) (w .written) e;
+    start = w .start;
+  }
+
+  pub so-far-all : {old slots : List ℕ} {i : ℕ} {next : Next} → SoFar leaf list old i next slots → s ≤ i
+      → slots ≡ take (leaf .from) old ++ spread s entries ++ drop (leaf .from + s) old
+  unfolding writtenTo ruleOf
+  so-far-all {i = i} w all =
+      let e : i ≡ s = omega (arith, w .front .passed .inside) in
+      w .written ∙ rw (e, take-all s (spread s entries) (le-of-eq (length-spread s entries)))

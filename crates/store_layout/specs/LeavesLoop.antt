@@ -76,7 +76,7 @@ module _ {old : List ℕ} {from s : ℕ} {counts : List ℕ} {first leaves : ℕ
       pub slots-left : to + s ≤ length old
       slots-left = omega (arith, w .to-is, ready .slots-room, mul-le-mul-left s more)
 
-      pub leaf-ready : LeafReady slots to s list at n
+      pub leaf-ready : LeafReady (record { from = to; slots = s; at = at; entries = n }) slots list
       leaf-ready = record {
         slots-room = omega (arith, length-laid, slots-left);
         list-room = omega (arith, next-total, total-front (j + 1) numbers, ready .list-room);

@@ -7,6 +7,7 @@ pub mod Decode
 pub mod Room
 pub mod Ready
 pub mod Quotient
+pub mod Pass
 pub mod Examples
 pub mod LeafLaws
 pub mod CountOrderLaws

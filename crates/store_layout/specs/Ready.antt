@@ -4,14 +4,15 @@ use mathlib.Core.List.{List, _++_}
 use Prim.Native.Nat.{ℕ, _+_, _*_, _^_, _≤_, _<_}
 use lib.ListN.{length, take, drop}
 use Rattle.base.specs.Lists.{Every, total}
+use Rattle.store_layout.specs.declared.Leaf.{Leaf}
 use Rattle.store_layout.specs.Leaf.{nonzero}
 
--- A leaf of s slots from `from` on, for the n entries of a list from `at` on.
-pub record LeafReady (slots : List ℕ) (from s : ℕ) (list : List ℕ) (at n : ℕ) : Type 0 where
-  pub slots-room : from + s ≤ length slots
-  pub list-room : at + n ≤ length list
-  pub fit : n ≤ s
-  pub small : s < 2 ^ 32
+-- A leaf has its slots and its entries.
+pub record LeafReady (leaf : Leaf) (slots list : List ℕ) : Type 0 where
+  pub slots-room : leaf .from + leaf .slots ≤ length slots
+  pub list-room : leaf .at + leaf .entries ≤ length list
+  pub fit : leaf .entries ≤ leaf .slots
+  pub small : leaf .slots < 2 ^ 32
 
 -- Leaves of s slots from `from` on, with the numbers of entries that stand in the counts from `first` on.
 pub record LeavesReady (slots : List ℕ) (from s : ℕ) (counts : List ℕ) (first leaves : ℕ) (list : List ℕ) : Type 0 where

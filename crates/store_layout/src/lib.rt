@@ -6,6 +6,7 @@ ghost use lib.ListN.{length, getD, take, drop};
 ghost use Rattle.store_layout.specs.Leaf.{spread, nonzero};
 ghost use Rattle.store_layout.specs.Quotient.{divided, added, positionOf};
 ghost use Rattle.store_layout.specs.Layout.{layLeaves};
+ghost use Rattle.store_layout.specs.Pass.{writtenTo, InFront};
 ghost use Rattle.store_layout.specs.Ready.{LeafReady, LeavesReady, GatherReady, Gathered};
 
 // What a store has room for.
@@ -83,26 +84,64 @@ pub fn first_position(s: usize, n: usize, step: Quotient) -> Quotient
     }
 }
 
-// Writes n entries of the list, from `at` on, into s slots from `from` on: each slot once, from left to right, an entry or 0.
-fn spread_leaf(slots: &mut [u64], from: usize, s: usize, list: &[u64], at: usize, n: usize)
-    requires { ⌜ LeafReady (now slots) from s (now list) at n ⌝ }
-    ensures { λ r. ⌜ now (slots .exit)
-        ≡ take from (now (slots .entry))
-        ++ spread s (take n (drop at (now (list .entry))))
-        ++ drop (from + s) (now (slots .entry)) ⌝ }
+// A leaf: so many slots from `from` on, and so many entries, which stand in a list from `at` on.
+struct Leaf {
+    from: usize,
+    slots: usize,
+    at: usize,
+    entries: usize,
+}
+
+// The entry of a leaf that comes next, and its position.
+struct Next {
+    k: usize,
+    position: Quotient,
+}
+
+// Writes slot i of a leaf, in front of which the pass is: the next entry where this is its slot, and 0 otherwise. After the write the leaf's
+// slots up to it hold what the rule gives, and its later ones what they held before.
+fn write_slot(
+    slots: &mut [u64],
+    leaf: Leaf,
+    list: &[u64],
+    step: Quotient,
+    i: usize,
+    next: Next,
+) -> Next
+    requires pass { ⌜ InFront leaf (now list) i next (now slots) ⌝ }
+    requires inside { ⌜ i < leaf .slots ⌝ }
+    requires step { ⌜ step ≡ divided (2 * leaf .slots) (2 * leaf .entries) ⌝ }
+    ensures { λ r. ⌜ (now (slots .exit) ≡ writtenTo leaf (now (list .entry)) (i + 1) (now (slots .entry)))
+        × InFront leaf (now (list .entry)) (i + 1) r (now (slots .exit)) ⌝ }
 {
-    let step = position_step(s, n);
-    let mut position = first_position(s, n, step);
+    let slot = leaf.from + i;
+    if i == next.position.whole {
+        slots[slot] = list[leaf.at + next.k];
+        return Next {
+            k: next.k + 1,
+            position: next.position.plus(step, 2 * leaf.entries),
+        };
+    }
+    slots[slot] = 0;
+    next
+}
+
+// Writes the slots of a leaf by the leaf rule: each slot once, from left to right.
+fn spread_leaf(slots: &mut [u64], leaf: Leaf, list: &[u64])
+    requires { ⌜ LeafReady leaf (now slots) (now list) ⌝ }
+    ensures { λ r. ⌜ now (slots .exit)
+        ≡ take (leaf .from) (now (slots .entry))
+        ++ spread (leaf .slots) (take (leaf .entries) (drop (leaf .at) (now (list .entry))))
+        ++ drop (leaf .from + leaf .slots) (now (slots .entry)) ⌝ }
+{
+    let step = position_step(leaf.slots, leaf.entries);
+    let mut next = Next {
+        k: 0,
+        position: first_position(leaf.slots, leaf.entries, step),
+    };
     let mut i: usize = 0;
-    let mut k: usize = 0;
-    while i < s {
-        if i == position.whole {
-            slots[from + i] = list[at + k];
-            k += 1;
-            position = position.plus(step, 2 * n);
-        } else {
-            slots[from + i] = 0;
-        }
+    while i < leaf.slots {
+        next = write_slot(slots, leaf, list, step, i, next);
         i += 1;
     }
 }
@@ -137,7 +176,13 @@ pub fn lay_leaves(
     let mut at: usize = 0;
     while j < leaves {
         let n = count_at(counts, first + j);
-        spread_leaf(slots, to, s, list, at, n);
+        let leaf = Leaf {
+            from: to,
+            slots: s,
+            at: at,
+            entries: n,
+        };
+        spread_leaf(slots, leaf, list);
         to += s;
         at += n;
         j += 1;

@@ -19,7 +19,7 @@ abbrev μ-loop : tie.MeasureT-loop
 ready : (c : tie.After-count-at Inv-loop μ-loop)
     → let l = c .before .before .loop in
     let a = c .before .before .before .before .before .before .args in
-    LeafReady (l .slots) (l .to) (a .s) (a .list .now) (l .at) (c .count-at .result)
+    LeafReady (record { from = l .to; slots = a .s; at = l .at; entries = c .count-at .result }) (l .slots) (a .list .now)
 ready c =
     leaf-ready (c .before .before .before .before .before .before .pre) (c .before .before .loop .inv .0) (c .before .before .loop .inv .1)
     (c .before .loop-test .taken) (c .count-at .ensures)
