@@ -4,8 +4,8 @@ use mathlib.Core.Path.{_≡_, refl, sym, ap, _∙_}
 use mathlib.Core.List.{List, _++_, append-assoc}
 use mathlib.Core.Logic.{⊎-elim}
 use Prim.Native.Nat.{ℕ, _+_, _-_, _≤_, _<_}
-use lib.ListN.{length, getD, set, take, drop, length-append, length-drop}
-use lib.Seq.{paste, paste-zero, paste-suc, length-paste-head, length-take-le, take-all, take-at, drop-at, drop-drop}
+use lib.ListN.{length, getD, set, take, drop}
+use lib.Seq.{paste, paste-zero, paste-suc, length-paste, drop-paste, length-take-le, take-all, take-at, drop-drop}
 use native.Mathlib.Nat.{eq-or-lt-of-le, le-of-eq, le-refl, not-suc-le-zero}
 use native.Mathlib.Numerals.{add-one}
 use native.Mathlib.Omega.{arith}
@@ -19,7 +19,7 @@ use Rattle.store_layout.specs.Leaf.{slotOf, Positions, spread}
 use Rattle.store_layout.specs.Quotient.{Stands}
 use Rattle.store_layout.specs.QuotientLaws.{stands-slot, stands-end}
 use Rattle.store_layout.specs.Ready.{LeafReady}
-use Rattle.store_layout.specs.Pass.{ruleOf, writtenTo, Passed, InFront}
+use Rattle.store_layout.specs.Pass.{ruleOf, writtenTo, Passed, InFront, SoFar}
 use Rattle.store_layout.specs.LeafLaws.{slotOf-positions, length-spread, spread-entry, spread-gap}
 
 module _ {position : ℕ → ℕ} {n s : ℕ} where
@@ -78,21 +78,14 @@ module _ {position : ℕ → ℕ} {n s : ℕ} where
 
 -- ---- writing a leaf
 
--- So far the slots are the old ones with the first i slots of the leaf written.
-pub record SoFar (leaf : Leaf) (list old : List ℕ) (i : ℕ) (next : Next) (slots : List ℕ) : Type 0 where
-  pub start : LeafReady leaf old list
-  pub front : InFront leaf list i next slots
-  pub written : slots ≡ writtenTo leaf list i old
-
 -- What is written up to i is written up to j with more of the same.
 paste-again : (d : List ℕ) (at : ℕ) (leaf : List ℕ) (i j : ℕ) → i ≤ j → j ≤ length leaf → at + j ≤ length d
     → paste (paste d at leaf i) at leaf j ≡ paste d at leaf j
 paste-again d at leaf i j l m room =
     let front : length (take at d) ≡ at = length-take-le at d (omega arith) in
-    let size : length (take at d ++ take i leaf) ≡ at + i = length-paste-head d at leaf i (omega arith) (omega arith) in
     let before : take at (paste d at leaf i) ≡ take at d
     = ap (take at) (append-assoc (take at d) (take i leaf) (drop (at + i) d)) ∙ take-at (take at d) (take i leaf ++ drop (at + i) d) at front in
-    let behind : drop (at + i) (paste d at leaf i) ≡ drop (at + i) d = drop-at (take at d ++ take i leaf) (drop (at + i) d) (at + i) size in
+    let behind : drop (at + i) (paste d at leaf i) ≡ drop (at + i) d = drop-paste d at leaf i (omega arith) (omega arith) in
     let sum : at + j ≡ (at + i) + (j - i) = omega arith in
     let after : drop (at + j) (paste d at leaf i) ≡ drop (at + j) d
     = rw (sum, ← drop-drop (j - i) (at + i) (paste d at leaf i), behind) (drop-drop (j - i) (at + i) d) in
@@ -122,13 +115,7 @@ module _ (leaf : Leaf) (list : List ℕ) where
   written-length : {slots : List ℕ} (i : ℕ) → LeafReady leaf slots list → i ≤ s → length (writtenTo leaf list i slots) ≡ length slots
   unfolding writtenTo
   written-length {slots} i ready l =
-      length-append (take (leaf .from) slots ++ take i (ruleOf leaf list)) (drop (leaf .from + i) slots)
-      ∙ omega (
-        arith,
-        length-paste-head slots (leaf .from) (ruleOf leaf list) i (omega (arith, ready .slots-room)) (omega (arith, rule-length)),
-        length-drop (leaf .from + i) slots,
-        ready .slots-room,
-      )
+      length-paste slots (leaf .from) (ruleOf leaf list) i (omega (arith, ready .slots-room)) (omega (arith, rule-length))
 
   pub front-none : {slots : List ℕ} {position : Quotient} → LeafReady leaf slots list → Stands s n 0 position
       → InFront leaf list 0 (record { k = 0; position = position }) slots

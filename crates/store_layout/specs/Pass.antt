@@ -34,3 +34,9 @@ pub record InFront (leaf : Leaf) (list : List ℕ) (i : ℕ) (next : Next) (slot
   pub written : slots ≡ writtenTo leaf list i slots
   pub passed : Passed (slotOf (leaf .slots) (leaf .entries)) (leaf .entries) (leaf .slots) i (next .k) (next .position .whole)
   pub stands : Stands (leaf .slots) (leaf .entries) (next .k) (next .position)
+
+-- So far the slots are the old ones with the first i slots of the leaf written.
+pub record SoFar (leaf : Leaf) (list old : List ℕ) (i : ℕ) (next : Next) (slots : List ℕ) : Type 0 where
+  pub start : LeafReady leaf old list
+  pub front : InFront leaf list i next slots
+  pub written : slots ≡ writtenTo leaf list i old

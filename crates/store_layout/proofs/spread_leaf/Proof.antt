@@ -4,7 +4,8 @@ use Prim.Native.Nat.{_-_}
 use lib.ListN.{length}
 use native.Mathlib.Omega.{arith}
 use borrow.Author.Needs.{needs}
-use Rattle.store_layout.specs.LeafLoop.{SoFar, so-far-none, so-far-more, so-far-all}
+use Rattle.store_layout.specs.Pass.{SoFar}
+use Rattle.store_layout.specs.LeafLoop.{so-far-none, so-far-more, so-far-all}
 use Rattle.store_layout.proofs.spread_leaf.Statement.{statement}
 use Rattle.store_layout.proofs.spread_leaf.Tie as tie
 
