@@ -1,4 +1,4 @@
-/* The packed finishing sheet: six calls on a store that the caller lends.
+/* The packed finishing sheet: six calls on a store that the caller lends, and the conversion of its counts between two orders.
  *
  * On x86-64 Linux, `rt staticlib sheet_c` proves the crates and writes target/staticlib/libsheet_c.a; a program is then built by
  *
@@ -7,6 +7,10 @@
  * The sheet. An entry is a 64-bit number other than 0; equal entries may stand in one sheet. The list is the entries in finishing order,
  * N of them, at most SHEET_ENTRIES; their ranks are 0 to N - 1. The store is SHEET_SLOTS slots and SHEET_COUNTS counts. A store of zeros is
  * the empty sheet, and sheet_clear makes any store that one.
+ *
+ * The counts. Count 0 is the size parameter M; the counts of the ranges of M's tree follow in Van Emde Boas order (document 02, F-5), then
+ * the unused ones. Stores from before F-5 have them in the order of the range numbers: convert these once by sheet_to_tree_order. No call
+ * converts by itself: a store left in the old order is judged by the new one (above M = 64 expect SHEET_NOT_A_SHEET).
  *
  * Slices. A slice is a pointer and the number of its elements. The pointer is aligned for its element type and not null, also where the
  * number is 0. A slice that a call may write overlaps no other slice of that call.
@@ -19,6 +23,7 @@
  *     read            the entries put into `output`, 0
  *     place           the place, the points
  *     check           N, 0
+ *     conversions     M, 0
  *
  * The first cause, in the order of the numbers, decides. A refused call puts 0, 0 into `answer` and changes nothing else. With fewer than two
  * elements of `answer`, SHEET_ANSWER_SHORT is returned before any cause is looked for, and nothing changes at all.
@@ -80,6 +85,13 @@ size_t sheet_place(const uint64_t *slots, size_t slots_len, const uint16_t *coun
 /* Whether the store is a sheet, and N. */
 size_t sheet_check(const uint64_t *slots, size_t slots_len, const uint16_t *counts, size_t counts_len, uint64_t *answer,
                    size_t answer_len);
+
+/* Counts that stand in the order of the range numbers, as before F-5, put into the tree order, in place. SHEET_LENGTHS where there are not
+ * SHEET_COUNTS counts, SHEET_NOT_A_SHEET where M is above 2 SHEET_ENTRIES - 1; everything else is accepted, whatever the other counts are. */
+size_t sheet_to_tree_order(uint16_t *counts, size_t counts_len, uint64_t *answer, size_t answer_len);
+
+/* Counts in the tree order, put back into the order of the range numbers. Each conversion undoes the other. */
+size_t sheet_to_number_order(uint16_t *counts, size_t counts_len, uint64_t *answer, size_t answer_len);
 
 #ifdef __cplusplus
 }

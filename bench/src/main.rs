@@ -8,6 +8,7 @@
 
 mod plain;
 mod sides;
+mod tree_order;
 
 use reference::random::SplitMix64;
 use sides::{Plain, Proved, Reference, Returned, Side, Store};

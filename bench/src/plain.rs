@@ -2,6 +2,7 @@
 //! for each call, no comparison of candidates one by one. `tests/reference` is
 //! written to be read beside the paper; a ratio to it alone would say little.
 
+use crate::tree_order::{places, Places};
 use reference::layout::{COUNTS, SLOTS};
 use reference::sizes::MAX_ENTRIES;
 
@@ -17,24 +18,72 @@ struct Size {
     leaf: usize,
     /// Candidates of the root: below, half of those above, rounded up.
     candidates: usize,
+    places: &'static Places,
 }
 
 impl Size {
     fn new(m: usize) -> Size {
         if m <= 64 {
-            return Size { m, height: 0, leaf: m, candidates: 0 };
+            return Size { m, height: 0, leaf: m, candidates: 0, places: places(0) };
         }
         let g = (usize::BITS - (m - 1).leading_zeros()) as usize;
+        let height = (m / g).ilog2() as usize;
         Size {
             m,
-            height: (m / g).ilog2() as usize,
+            height,
             leaf: 3 * g,
             candidates: m.div_ceil(4 * g),
+            places: places(height),
         }
+    }
+
+    fn root(&self) -> Range {
+        Range { k: 1, levels: self.height, c: self.candidates }
+    }
+
+    /// The place of the count of range k.
+    fn place(&self, k: usize) -> usize {
+        // Every k is below COUNTS; the remainder spares the bounds check.
+        usize::from(self.places[k % COUNTS])
+    }
+
+    fn count(&self, counts: &Counts, k: usize) -> usize {
+        usize::from(counts[self.place(k)])
+    }
+
+    /// The counts of the ranges by their numbers.
+    fn by_number(&self, counts: &Counts) -> Counts {
+        let mut numbered = [0; COUNTS];
+        for (n, &place) in numbered.iter_mut().zip(self.places).take(2 * self.leaves()) {
+            *n = counts[usize::from(place)];
+        }
+        numbered
+    }
+
+    fn set_count(&self, counts: &mut Counts, k: usize, n: usize) {
+        counts[self.place(k)] = n as u16;
     }
 
     fn leaves(&self) -> usize {
         1 << self.height
+    }
+}
+
+/// A range: its number, the levels below it, and how many candidates it has.
+#[derive(Clone, Copy)]
+struct Range {
+    k: usize,
+    levels: usize,
+    c: usize,
+}
+
+impl Range {
+    fn left(self) -> Range {
+        Range { k: 2 * self.k, levels: self.levels - 1, c: self.c - self.c / 2 }
+    }
+
+    fn right(self) -> Range {
+        Range { k: 2 * self.k + 1, ..self.left() }
     }
 }
 
@@ -90,6 +139,8 @@ fn leaf_is_spread(leaf: &[u64], n: usize) -> bool {
     })
 }
 
+/// Whether each range above the leaves is split at a candidate; the counts stand
+/// by their numbers here.
 fn tree_is_balanced(counts: &Counts, c: usize, levels: usize, k: usize) -> bool {
     if levels == 0 {
         return true;
@@ -115,11 +166,12 @@ fn open(slots: &[u64], counts: &[u16]) -> Result<(Size, usize), u64> {
     }
     let size = Size::new(m);
     let leaves = size.leaves();
-    if !tree_is_balanced(counts, size.candidates, size.height, 1) || counts[2 * leaves..].iter().fold(0, |any, &c| any | c) != 0 {
+    let numbered = size.by_number(counts);
+    if !tree_is_balanced(&numbered, size.candidates, size.height, 1) || counts[2 * leaves..].iter().fold(0, |any, &c| any | c) != 0 {
         return Err(2);
     }
     let (used, unused) = slots.split_at(size.leaf * leaves);
-    let spread = m == 0 || used.chunks_exact(size.leaf).zip(&counts[leaves..]).all(|(leaf, &n)| leaf_is_spread(leaf, n as usize));
+    let spread = m == 0 || used.chunks_exact(size.leaf).zip(&numbered[leaves..]).all(|(leaf, &n)| leaf_is_spread(leaf, n as usize));
     if !spread || unused.iter().fold(0, |any, &slot| any | slot) != 0 {
         return Err(2);
     }
@@ -195,20 +247,19 @@ fn compare(change: Change, n: usize, c: usize) -> Option<(usize, usize)> {
     }
 }
 
-fn rebuild(counts: &mut Counts, c: usize, levels: usize, k: usize, n: usize, tape: &mut Tape) -> Option<()> {
-    counts[k] = n as u16;
-    if levels == 0 {
+fn rebuild(counts: &mut Counts, size: &Size, range: Range, n: usize, tape: &mut Tape) -> Option<()> {
+    if range.levels == 0 {
+        size.set_count(counts, range.k, n);
         return Some(());
     }
-    let b = window(n, c) + tape.draw(c)?;
-    rebuild_halves(counts, c, levels, k, n, b, tape)
+    let b = window(n, range.c) + tape.draw(range.c)?;
+    rebuild_halves(counts, size, range, n, b, tape)
 }
 
-fn rebuild_halves(counts: &mut Counts, c: usize, levels: usize, k: usize, n: usize, b: usize, tape: &mut Tape) -> Option<()> {
-    counts[k] = n as u16;
-    let below = c - c / 2;
-    rebuild(counts, below, levels - 1, 2 * k, b, tape)?;
-    rebuild(counts, below, levels - 1, 2 * k + 1, n - b, tape)
+fn rebuild_halves(counts: &mut Counts, size: &Size, range: Range, n: usize, b: usize, tape: &mut Tape) -> Option<()> {
+    size.set_count(counts, range.k, n);
+    rebuild(counts, size, range.left(), b, tape)?;
+    rebuild(counts, size, range.right(), n - b, tape)
 }
 
 /// The range that the change is confined to, and the change as it sees it.
@@ -221,25 +272,25 @@ struct Part {
 fn walk(counts: &mut Counts, size: Size, n: usize, change: Change, tape: &mut Tape) -> Option<Part> {
     let (mut k, mut depth, mut n, mut change, mut c) = (1, 0, n, change, size.candidates);
     while depth < size.height {
-        let b = counts[2 * k] as usize;
+        let b = size.count(counts, 2 * k);
         if let Some((out, into)) = compare(change, n, c) {
-            let levels = size.height - depth;
+            let range = Range { k, levels: size.height - depth, c };
             if b == out {
-                rebuild(counts, c, levels, k, change.after(n), tape)?;
+                rebuild(counts, &size, range, change.after(n), tape)?;
                 return Some(Part { k, depth, change });
             }
             if tape.draw(c)? == 0 {
-                rebuild_halves(counts, c, levels, k, change.after(n), into, tape)?;
+                rebuild_halves(counts, &size, range, change.after(n), into, tape)?;
                 return Some(Part { k, depth, change });
             }
         }
-        counts[k] = change.after(n) as u16;
+        size.set_count(counts, k, change.after(n));
         let rank = change.rank();
         (k, n, change) = if b < rank { (2 * k + 1, n - b, change.at(rank - b)) } else { (2 * k, b, change) };
         depth += 1;
         c -= c / 2;
     }
-    counts[k] = change.after(n) as u16;
+    size.set_count(counts, k, change.after(n));
     Some(Part { k, depth, change })
 }
 
@@ -295,9 +346,10 @@ fn lay_part(slots: &mut [u64], old: Size, new: Size, part: &Part, entry: u64, co
     if new.leaf == 0 {
         return;
     }
-    for (leaf, &n) in slots[to].chunks_exact_mut(new.leaf).zip(&counts[leaves]) {
-        let mut next = Slots::new(leaf.len(), n as usize);
-        for &entry in entries.by_ref().take(n as usize) {
+    for (leaf, k) in slots[to].chunks_exact_mut(new.leaf).zip(leaves) {
+        let n = new.count(counts, k);
+        let mut next = Slots::new(leaf.len(), n);
+        for &entry in entries.by_ref().take(n) {
             leaf[next.slot] = entry;
             next.advance();
         }
@@ -323,7 +375,7 @@ fn plan(work: &mut Counts, old: Size, n: usize, change: Change, tape: &mut Tape)
             let new = Size::new(m);
             *work = [0; COUNTS];
             work[0] = m as u16;
-            rebuild(work, new.candidates, new.height, 1, change.after(n), tape)?;
+            rebuild(work, &new, new.root(), change.after(n), tape)?;
             Some((new, Part { k: 1, depth: 0, change }))
         }
     }
@@ -355,10 +407,11 @@ pub fn read(slots: &[u64], counts: &[u16], first: usize, last: usize, output: &m
         return [6, 0, 0];
     };
     // The leaf that holds the first of them, and how many stand before it there.
+    let counts: &Counts = counts.try_into().expect("the lengths are right");
     let leaves = size.leaves();
     let (mut leaf, mut before) = (0, first);
-    while before >= counts[leaves + leaf] as usize {
-        before -= counts[leaves + leaf] as usize;
+    while before >= size.count(counts, leaves + leaf) {
+        before -= size.count(counts, leaves + leaf);
         leaf += 1;
     }
     let held = slots[leaf * size.leaf..].iter().filter(|&&slot| slot != 0).skip(before);

@@ -7,7 +7,7 @@ def declared(text, name):
     escaped = re.escape(name)
     return re.search(
         rf"(?m)^\s*(?:(?:unfoldable|abbrev|pub)\s+)*(?:(?:data|record|enum|struct)\s+)?{escaped}(?=\s[^=]*[:{{])", text
-    ) or re.search(rf"(?m)^\s*(?:pub\s+)?(?:extern \"C\"\s+)?fn {escaped}\b", text)
+    ) or re.search(rf"(?m)^\s*(?:pub\s+)?(?:extern \"C\"\s+)?(?:fn|const) {escaped}\b", text)
 
 
 def main(path):

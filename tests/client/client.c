@@ -1,5 +1,5 @@
-/* A small display program: enters boats, strikes one out, and prints place, points and sail number of each; then a full sheet; then the
- * kinds of some lines, and what frames are answered by on a cleared sheet. */
+/* A small display program: enters boats, strikes one out, and prints place, points and sail number of each; then a full sheet; then a store
+ * whose counts stand in number order; then the kinds of some lines, and what frames are answered by on a cleared sheet. */
 #include "coins.h"
 #include "frames.h"
 #include "sheet.h"
@@ -105,6 +105,17 @@ static void fill(void) {
     printf("the last %" PRIu64 " boats stay\n", answer[0]);
 }
 
+/* A store from before the tree order. Its size parameter is above 64: no call but clear takes it until its counts are converted. */
+static void convert(void) {
+    accepted("to number order", sheet_to_number_order(counts, SHEET_COUNTS, answer, 2));
+    printf("in number order: %zu\n", sheet_check(slots, SHEET_SLOTS, counts, SHEET_COUNTS, answer, 2));
+    accepted("to tree order", sheet_to_tree_order(counts, SHEET_COUNTS, answer, 2));
+    if (answer[0] != counts[0])
+        printf("another size parameter: %" PRIu64 "\n", answer[0]);
+    printf("in tree order: %zu", sheet_check(slots, SHEET_SLOTS, counts, SHEET_COUNTS, answer, 2));
+    printf(", %" PRIu64 " boats\n", answer[0]);
+}
+
 int main(void) {
     static const uint64_t boats[] = {117, 42, 2024, 7, 311};
     static const char *const frames[] = {"010000000000000000000A", "0400000001", "010001000000000000000B", "05"};
@@ -124,6 +135,7 @@ int main(void) {
     printf("answer too short: %zu\n", sheet_check(slots, SHEET_SLOTS, counts, SHEET_COUNTS, answer, 1));
 
     fill();
+    convert();
     if (words_drawn != words_read + waiting)
         printf("a word was lost, or read by two calls\n");
     fprintf(stderr, "size parameter %u, %lu words read\n", counts[0], words_read);

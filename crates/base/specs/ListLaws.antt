@@ -43,6 +43,11 @@ module _ {A : Type 0} (P : A → Type 0) where
   every-getD (x ∷ xs) zero d p h = p .0
   every-getD (x ∷ xs) (suc i) d p h = every-getD xs i d (p .1) (le-of-suc-le-suc h)
 
+  pub every-from : (d : A) (xs : List A) → ((i : ℕ) → i < length xs → P (getD xs i d)) → Every P xs
+  unfolding Every
+  every-from d [] h = tt
+  every-from d (x ∷ xs) h = (h 0 (omega arith), every-from d xs (λ i l. h (suc i) (omega arith)))
+
   -- At any index, where P holds of what stands for a member past the end.
   pub every-at : (xs : List A) (i : ℕ) (d : A) → Every P xs → P d → P (getD xs i d)
   unfolding Every

@@ -27,7 +27,7 @@ use Rattle.tree_walk.specs.Updated.{UpdatedAs}
 use Rattle.tree_update.specs.Update.{UpdateReady}
 use Rattle.store_layout.specs.declared.Capacity.{Capacity}
 use Rattle.store_layout.specs.Layout.{Store, laySlots, layCounts, layOut}
-use Rattle.store_layout.specs.CountOrder.{countOrder}
+use Rattle.store_order.specs.CountOrder.{countOrder}
 use Rattle.store_layout.specs.Sheet.{IsContents}
 use Rattle.store_layout.specs.Decode.{Contents, numbered}
 use Rattle.store_layout.specs.Room.{CapacityReady}

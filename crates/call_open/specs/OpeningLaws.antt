@@ -13,8 +13,8 @@ use lib.Pow.{pow-pos}
 use Rattle.tree_sizes.specs.Sizes.{height}
 use Rattle.store_layout.specs.declared.Capacity.{Capacity}
 use Rattle.store_layout.specs.Layout.{Store}
-use Rattle.store_layout.specs.CountOrder.{countOrder, numberOrder}
-use Rattle.store_layout.specs.CountOrderLaws.{length-numberOrder, numberOrder-size, numberOrder-root, count-number}
+use Rattle.store_order.specs.CountOrder.{countOrder, numberOrder}
+use Rattle.store_order.specs.CountOrderLaws.{length-numberOrder, numberOrder-size, numberOrder-root, count-number}
 use Rattle.store_layout.specs.Decode.{listOf, numbered, shapeOf, sheetTest, decode}
 use Rattle.store_layout.specs.Room.{CapacityReady}
 use Rattle.store_layout.specs.RoomLaws.{counts-enough}

@@ -35,6 +35,7 @@ number-fits (answer.Changed n words) = omega arith
 number-fits (answer.Entries count) = omega arith
 number-fits (answer.Placed p points) = omega arith
 number-fits (answer.Checked n) = omega arith
+number-fits (answer.Converted m) = omega arith
 number-fits (answer.Refused c) = cause-bounds c .1
 
 -- A call that returns 0 was accepted.

@@ -9,6 +9,7 @@ use lib.ListN.{length, take, drop}
 use Rattle.base.specs.Lists.{Every, equalLists}
 use Rattle.tree_rules.specs.declared.Change.{Change}
 use Rattle.tree_rules.specs.declared.Change.the-variants.{Insert, Delete}
+use Rattle.tree_rules.specs.Tree.{Shape}
 use Rattle.store_layout.specs.declared.Capacity.{Capacity}
 use Rattle.store_layout.specs.Layout.{Store, layOut}
 use Rattle.store_layout.specs.Decode.{Contents, decode}
@@ -44,15 +45,19 @@ foundBy none = wrong NotASheet
 unfoldable pub equalStores : Store → Store → Bool
 equalStores a b = equalLists (a .slots) (b .slots) && equalLists (a .counts) (b .counts)
 
-abbrev pub plainView : Capacity → View
-plainView cap = record {
+-- The view of such lists by a layout and how it is read back; a plain sheet's is that of the layout of document 01.
+abbrev pub viewOf : Capacity → (List ℕ → Shape → Store) → (Store → Option Contents) → View
+viewOf cap lay decode = record {
   Store = Store;
   IsList = IsList cap;
-  lay = layOut cap;
+  lay = lay;
   rightLengths = rightLengths cap;
-  decode = λ store. foundBy (decode cap store);
+  decode = λ store. foundBy (decode store);
   equal = equalStores;
 }
+
+abbrev pub plainView : Capacity → View
+plainView cap = viewOf cap (layOut cap) (decode cap)
 
 -- ---- insert and delete
 

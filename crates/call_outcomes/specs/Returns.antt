@@ -25,4 +25,5 @@ returned (answer.Changed n words) = record { number = 0; first = n; second = wor
 returned (answer.Entries count) = record { number = 0; first = count; second = 0 }
 returned (answer.Placed p points) = record { number = 0; first = p; second = points }
 returned (answer.Checked n) = record { number = 0; first = n; second = 0 }
+returned (answer.Converted m) = record { number = 0; first = m; second = 0 }
 returned (answer.Refused cause) = record { number = causeNumber cause; first = 0; second = 0 }

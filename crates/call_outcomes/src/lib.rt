@@ -22,6 +22,7 @@ pub enum Answer {
     Entries { count: usize },
     Placed { place: usize, points: usize },
     Checked { n: usize },
+    Converted { m: usize },
     Refused(Cause),
 }
 
@@ -80,6 +81,11 @@ impl Answer {
             Answer::Checked { n } => Returned {
                 number: 0,
                 first: n,
+                second: 0,
+            },
+            Answer::Converted { m } => Returned {
+                number: 0,
+                first: m,
                 second: 0,
             },
             Answer::Refused(cause) => {

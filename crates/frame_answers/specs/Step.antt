@@ -105,14 +105,14 @@ taped line words k =
 
 -- ---- print
 
--- The line of leaf j, of s slots. Its range has the number first + j.
-unfoldable pub leafReply : Store → ℕ → ℕ → ℕ → Reply
-leafReply store s first j = leaf j (getD (numbered store) (first + j) 0) (take s (drop (j * s) (store .slots)))
+-- The line of leaf j, of s slots, from the slots and the counts by range number. Its range has the number first + j.
+unfoldable pub leafReply : List ℕ → List ℕ → ℕ → ℕ → ℕ → Reply
+leafReply slots counts s first j = leaf j (getD counts (first + j) 0) (take s (drop (j * s) slots))
 
 -- The lines of the leaves j to j + k - 1.
-unfoldable pub leafReplies : Store → ℕ → ℕ → ℕ → ℕ → List Reply
-leafReplies store s first j zero = []
-leafReplies store s first j (suc k) = leafReply store s first j ∷ leafReplies store s first (suc j) k
+unfoldable pub leafReplies : List ℕ → List ℕ → ℕ → ℕ → ℕ → ℕ → List Reply
+leafReplies slots counts s first j zero = []
+leafReplies slots counts s first j (suc k) = leafReply slots counts s first j ∷ leafReplies slots counts s first (suc j) k
 
 -- The number of leaves that are printed: none of an empty sheet.
 unfoldable pub leavesOf : ℕ → ℕ
@@ -122,7 +122,7 @@ leavesOf m = ifEq m 0 0 (2 ^ height m)
 unfoldable pub sheetReplies : Store → List Reply
 sheetReplies store =
     let m = getD (store .counts) 0 0 in
-    sheet m (entryCount store) ∷ leafReplies store (leafSlots m) (2 ^ height m) 0 (leavesOf m)
+    sheet m (entryCount store) ∷ leafReplies (store .slots) (numbered store) (leafSlots m) (2 ^ height m) 0 (leavesOf m)
 
 -- The answer, and the lines of the sheet where the store is one.
 unfoldable pub printReplies : ℕ → Store → List Reply

@@ -130,7 +130,7 @@ module _ (store : Store) (f : StoreFits store) where
       let valid = decode-sound clubs store (a .0) found .0 in
       omega (arith, size-known clubs store (a .0) found, valid .shape .allowed .most, valid .room)
 
-  leaves-fit : (s first j k : ℕ) → j + k ≤ 2 ^ 16 → Every Writable (leafReplies store s first j k)
+  leaves-fit : (s first j k : ℕ) → j + k ≤ 2 ^ 16 → Every Writable (leafReplies (store .slots) (numbered store) s first j k)
   unfolding leafReplies leafReply Every Writable EntriesFit
   leaves-fit s first j zero l = tt
   leaves-fit s first j (suc k) l = (

@@ -9,9 +9,10 @@ use native.Mathlib.Nat.{mul-le-mul-right}
 use lib.ListN.{length, getD, take, drop, length-take}
 use lib.Pow.{pow-pos}
 use Rattle.base.specs.CaseLaws.{ifEq-yes, ifEq-no}
-use Rattle.tree_sizes.specs.Sizes.{height, leafSlots, slots}
+use Rattle.tree_sizes.specs.Sizes as sizes
+use Rattle.tree_sizes.specs.Sizes.{height, leafSlots}
 use Rattle.tree_sizes.specs.SizeLaws.{height-most}
-use Rattle.store_layout.specs.CountOrder.{numberOrder}
+use Rattle.store_order.specs.CountOrder.{numberOrder}
 use Rattle.store_layout.specs.Layout.{Store}
 use Rattle.store_layout.specs.Decode.{Contents, numbered}
 use Rattle.store_layout.specs.SheetLaws.{decode-sound, size-known}
@@ -36,36 +37,35 @@ use Rattle.frame_answers.specs.StepLaws.{one-line}
 -- ---- the leaves
 
 -- The count and a slice of the slots, as the code takes them.
-pub leaf-wrote : (store : Store) (s first j count : ℕ) {output output′ : List ℕ} {at next : ℕ}
-    → count ≡ getD (numberOrder (height (getD (store .counts) 0 0)) (store .counts)) (first + j) 0
-    → Wrote output at (lineOf (leaf j count (take (j * s + s - j * s) (drop (j * s) (store .slots))))) output′ next
-    → Wrote output at (lineOf (leafReply store s first j)) output′ next
-unfolding leafReply numbered
-leaf-wrote store s first j count e w =
+pub leaf-wrote : (slots counts : List ℕ) (s first j count : ℕ) {output output′ : List ℕ} {at next : ℕ} → count ≡ getD counts (first + j) 0
+    → Wrote output at (lineOf (leaf j count (take (j * s + s - j * s) (drop (j * s) slots)))) output′ next
+    → Wrote output at (lineOf (leafReply slots counts s first j)) output′ next
+unfolding leafReply
+leaf-wrote slots counts s first j count e w =
     let all : j * s + s - j * s ≡ s = omega arith in
     rw (all, e) at w
 
-leaf-most : (store : Store) (s first j : ℕ) → length (lineOf (leafReply store s first j)) ≤ 11 + 16 * s
+leaf-most : (slots counts : List ℕ) (s first j : ℕ) → length (lineOf (leafReply slots counts s first j)) ≤ 11 + 16 * s
 unfolding leafReply
-leaf-most store s first j =
-    let part = drop (j * s) (store .slots) in
-    omega (arith, length-leaf j (getD (numbered store) (first + j) 0) (take s part), length-take s part)
+leaf-most slots counts s first j =
+    let part = drop (j * s) slots in
+    omega (arith, length-leaf j (getD counts (first + j) 0) (take s part), length-take s part)
 
-module _ {store : Store} {s k : ℕ} {old : List ℕ} {at : ℕ} where
-  pub leaves-start : at + k * (11 + 16 * s) ≤ length old → LeavesWritten store s k old at 0 old at
+module _ {slots counts : List ℕ} {s k : ℕ} {old : List ℕ} {at : ℕ} where
+  pub leaves-start : at + k * (11 + 16 * s) ≤ length old → LeavesWritten slots counts s k old at 0 old at
   leaves-start room =
       let all : k - 0 ≡ k = omega arith in
       record { most = omega arith; writing = rw all (writing-start (omega arith)); room = rw all room }
 
-  module _ {j : ℕ} {new : List ℕ} {next : ℕ} (w : LeavesWritten store s k old at j new next) where
+  module _ {j : ℕ} {new : List ℕ} {next : ℕ} (w : LeavesWritten slots counts s k old at j new next) where
     pub leaves-room : j < k → next + (11 + 16 * s) ≤ length new
     leaves-room l = omega (arith, w .room, mul-le-mul-right (11 + 16 * s) (one-more l))
       where
         one-more : j < k → 1 ≤ k - j
         one-more l = omega arith
 
-    pub leaves-next : j < k → {new′ : List ℕ} {next′ : ℕ} → Wrote new next (lineOf (leafReply store s k j)) new′ next′
-        → LeavesWritten store s k old at (j + 1) new′ next′
+    pub leaves-next : j < k → {new′ : List ℕ} {next′ : ℕ} → Wrote new next (lineOf (leafReply slots counts s k j)) new′ next′
+        → LeavesWritten slots counts s k old at (j + 1) new′ next′
     unfolding leafReplies bytesOf
     leaves-next l more =
         let left : k - j ≡ suc (k - suc j) = omega arith in
@@ -74,10 +74,10 @@ module _ {store : Store} {s k : ℕ} {old : List ℕ} {at : ℕ} where
         record {
           most = omega arith;
           writing = rw (add-one j) (writing-next (rw left at (w .writing)) more);
-          room = rw (add-one j) (omega (arith, w .room, shorter, more .end, leaf-most store s k j, wrote-length more));
+          room = rw (add-one j) (omega (arith, w .room, shorter, more .end, leaf-most slots counts s k j, wrote-length more));
         }
 
-    pub leaves-done : k ≤ j → Wrote old at (bytesOf (leafReplies store s k 0 k)) new next
+    pub leaves-done : k ≤ j → Wrote old at (bytesOf (leafReplies slots counts s k 0 k)) new next
     unfolding leafReplies bytesOf
     leaves-done l =
         let none : k - j ≡ 0 = omega arith in
@@ -102,7 +102,7 @@ module _ (store : Store) (sheet : PrintReady store) where
 
   pub leaf-numbers : (s h leaves : ℕ) → s ≡ leafSlots (getD (store .counts) 0 0) → h ≡ height (getD (store .counts) 0 0) → leaves ≡ 2 ^ h
       → LeafNumbers store s leaves
-  unfolding slots leavesMost
+  unfolding sizes.slots leavesMost
   leaf-numbers s h leaves es eh el =
       let m = getD (store .counts) 0 0 in
       let two : leaves ≡ 2 ^ height m = rw (← eh) el in
@@ -122,12 +122,13 @@ module _ (slots counts : List ℕ) {output middle : List ℕ} {at next : ℕ}
   unfolding sheetReplies leavesOf leafReplies entryCount
   sheet-empty e = rw (ifEq-yes (getD counts 0 0) 0 _ _ e) (one-line _ first)
 
-  pub sheet-leaves : getD counts 0 0 ≢ 0 → {s leaves : ℕ} → LeafNumbers (storeOf slots counts) s leaves → {output′ : List ℕ} {end : ℕ}
-      → Wrote middle next (bytesOf (leafReplies (storeOf slots counts) s leaves 0 leaves)) output′ end
+  pub sheet-leaves : getD counts 0 0 ≢ 0 → {s leaves : ℕ} → LeafNumbers (storeOf slots counts) s leaves
+      → {read : List ℕ} → read ≡ numberOrder (height (getD counts 0 0)) counts → {output′ : List ℕ} {end : ℕ}
+      → Wrote middle next (bytesOf (leafReplies slots read s leaves 0 leaves)) output′ end
       → Wrote output at (bytesOf (sheetReplies (storeOf slots counts))) output′ end
-  unfolding sheetReplies leavesOf bytesOf entryCount
-  sheet-leaves ne numbers more =
-      rw (ifEq-no (getD counts 0 0) 0 _ _ ne) (wrote-more first (rw (numbers .slots-are, numbers .leaves-are) at more))
+  unfolding sheetReplies leavesOf bytesOf entryCount numbered
+  sheet-leaves ne numbers read more =
+      rw (ifEq-no (getD counts 0 0) 0 _ _ ne) (wrote-more first (rw (numbers .slots-are, numbers .leaves-are, read) at more))
 
 -- ---- the answer
 
@@ -161,6 +162,7 @@ module _ (store : Store) (given : Answer) (slots counts : List ℕ) (back : Retu
       record {
         size = rw size (omega (arith, valid .shape .allowed .most, valid .room));
         slots-fit = rw (size, lengths .slots) (clubs-roomy .slots-fit _ _ (valid .room) (valid .shape .allowed));
+        counts-are = lengths .counts;
         counts-fit = rw (size, lengths .counts) (clubs-roomy .counts-fit _ _ (valid .room) (valid .shape .allowed));
       }
 

@@ -1,9 +1,8 @@
 // The lines that answer a print: the sheet, leaf by leaf.
 use tree_sizes::Size;
 ghost use mathlib.Core.List.{[]};
-ghost use Prim.Native.Nat.{_+_, _*_, _^_, _<_, _≤_};
-ghost use lib.ListN.{length, getD};
-ghost use Rattle.tree_sizes.specs.Sizes.{height};
+ghost use Prim.Native.Nat.{_+_, _*_, _<_, _≤_};
+ghost use lib.ListN.{length};
 ghost use Rattle.call_outcomes.specs.Outcome.{outcome};
 ghost use Rattle.call_outcomes.specs.Plain as call;
 ghost use Rattle.call_outcomes.specs.Plain.{plain, storeOf};
@@ -13,10 +12,10 @@ ghost use Rattle.frame_replies.specs.Wrote.{Wrote};
 ghost use Rattle.frame_answers.specs.Step.{leafReply, leafReplies, sheetReplies, printLines, longest};
 ghost use Rattle.frame_print.specs.Printed.{PrintReady, leavesMost};
 
-// The line of leaf j, of s slots, whose range has the number first + j.
+// The line of leaf j, of s slots, whose range has the number first + j. The counts are those by range number.
 fn print_leaf(
     slots: &[u64],
-    counts: &[u16],
+    counts: &[u32],
     s: usize,
     first: usize,
     j: usize,
@@ -25,11 +24,10 @@ fn print_leaf(
 ) -> usize
     requires slots { ⌜ j * s + s ≤ length (now slots) ⌝ }
     requires counts { ⌜ first + j < length (now counts) ⌝ }
-    requires ranges { ⌜ 2 * 2 ^ height (getD (now counts) 0 0) ≤ length (now counts) ⌝ }
     requires room { ⌜ at + (11 + 16 * s) ≤ length (now output) ⌝ }
-    ensures { λ r. ⌜ Wrote (now (output .entry)) at (lineOf (leafReply (storeOf (now (slots .entry)) (now (counts .entry))) s first j)) (now (output .exit)) r ⌝ }
+    ensures { λ r. ⌜ Wrote (now (output .entry)) at (lineOf (leafReply (now (slots .entry)) (now (counts .entry)) s first j)) (now (output .exit)) r ⌝ }
 {
-    let count = store_counts::range_count(counts, first + j) as u64;
+    let count = store_layout::count_at(counts, first + j) as u64;
     let from = j * s;
     let end = from + s;
     frame_replies::put_leaf(output, at, j as u64, count, &slots[from..end])
@@ -38,7 +36,7 @@ fn print_leaf(
 // The lines of all leaves.
 fn print_leaves(
     slots: &[u64],
-    counts: &[u16],
+    counts: &[u32],
     s: usize,
     leaves: usize,
     output: &mut [u8],
@@ -46,9 +44,8 @@ fn print_leaves(
 ) -> usize
     requires slots { ⌜ leaves * s ≤ length (now slots) ⌝ }
     requires counts { ⌜ 2 * leaves ≤ length (now counts) ⌝ }
-    requires ranges { ⌜ 2 * 2 ^ height (getD (now counts) 0 0) ≤ length (now counts) ⌝ }
     requires room { ⌜ at + leaves * (11 + 16 * s) ≤ length (now output) ⌝ }
-    ensures { λ r. ⌜ Wrote (now (output .entry)) at (bytesOf (leafReplies (storeOf (now (slots .entry)) (now (counts .entry))) s leaves 0 leaves)) (now (output .exit)) r ⌝ }
+    ensures { λ r. ⌜ Wrote (now (output .entry)) at (bytesOf (leafReplies (now (slots .entry)) (now (counts .entry)) s leaves 0 leaves)) (now (output .exit)) r ⌝ }
 {
     let mut j = 0;
     let mut next = at;
@@ -74,7 +71,9 @@ fn print_sheet(slots: &[u64], counts: &[u16], output: &mut [u8], at: usize) -> u
     let size = Size { m: m };
     let s = size.leaf_slots();
     let leaves = tree_sizes::power(size.height());
-    print_leaves(slots, counts, s, leaves, output, next)
+    let mut numbered = [0u32; 256];
+    store_counts::read_counts(counts, &mut numbered);
+    print_leaves(slots, &numbered, s, leaves, output, next)
 }
 
 // A print.

@@ -1,12 +1,13 @@
 -- The reviewer's page: what is claimed of the clubs' sheets, a sentence and a theorem each. The definitions that the statements name stand in
--- call_outcomes (Kind, Causes, Outcome, Plain, Clubs), call_history (History, TapeRuns), frame_sessions (Session) and frame_chunks (Chunk, Input).
+-- store_order (TreeOrder), call_outcomes (Kind, Causes, Outcome, Plain, Clubs), call_orders (Conversion, NumberOrder, Converts), call_history
+-- (History, TapeRuns), frame_sessions (Session) and frame_chunks (Chunk, Input).
 use mathlib.Core.Path.{_≡_}
 use mathlib.Core.Bool.{true}
 use mathlib.Core.Logic.{_≢_, _↔_}
 use mathlib.Core.List.{List, [], _∷_, _++_, map}
 use mathlib.Core.Option.{some}
-use Prim.Native.Nat.{ℕ, _^_, _<_}
-use lib.ListN.{length}
+use Prim.Native.Nat.{ℕ, _-_, _^_, _<_}
+use lib.ListN.{length, getD}
 use Rattle.base.specs.Lists.{total}
 use Rattle.draw_shares.specs.Program.{Among, Draws}
 use Rattle.draw_shares.specs.Fraction.{_≐_, whole, unit}
@@ -15,17 +16,26 @@ use Rattle.tree_rules.specs.declared.Change.{Change}
 use Rattle.tree_rules.specs.Tree.{Shape, IsShape}
 use Rattle.tree_rules.specs.ChangeList.{changeList}
 use Rattle.tree_canonical.specs.ShapeShare.{shapeProduct}
+use Rattle.store_order.specs.Occurs.{occurs}
+use Rattle.store_order.specs.TreeOrder.{treeOrder}
+use Rattle.store_order.specs.TreeOrderLaws.{order-permutes}
+use Rattle.store_order.specs.Copied.{up}
 use Rattle.store_layout.specs.Layout.{Store, layOut}
 use Rattle.call_outcomes.specs.declared.Cause.{Cause}
 use Rattle.call_outcomes.specs.declared.Cause.the-variants.{NotASheet, TapeEnded}
-use Rattle.call_outcomes.specs.declared.Answer.the-variants.{Checked, Changed, Refused}
+use Rattle.call_outcomes.specs.declared.Answer.the-variants.{Checked, Changed, Converted, Refused}
 use Rattle.call_outcomes.specs.Causes.{argumentCause}
 use Rattle.call_outcomes.specs.Outcome.{outcome, callProgram}
-use Rattle.call_outcomes.specs.Plain.{RightLengths, equalStores, plainView, plain, Call, delete, check, changing}
+use Rattle.call_outcomes.specs.Plain.{IsList, RightLengths, equalStores, plainView, plain, Call, delete, check, changing}
 use Rattle.call_outcomes.specs.PlainLaws.{lengths-right}
 use Rattle.call_outcomes.specs.Clubs.{clubs, zeros}
-use Rattle.call_outcomes.specs.ClubsLaws.{clubs-lawful}
+use Rattle.call_outcomes.specs.ClubsLaws.{clubs-roomy, clubs-lawful}
 use Rattle.call_outcomes.specs.LongerTapeLaws as longer
+use Rattle.call_orders.specs.Conversion.{toTree, toNumber, Convertible, conversion, toTreeOrder}
+use Rattle.call_orders.specs.ConversionLaws as conversions
+use Rattle.call_orders.specs.NumberOrder.{layNumbered, inNumberOrder}
+use Rattle.call_orders.specs.Converts.{converted}
+use Rattle.call_orders.specs.OrderLaws as orders
 use Rattle.call_history.specs.History.{history, listAtEnd, SameTable, Sent, clearing, lastStore, NoneEnds, facesSent, callsOf}
 use Rattle.call_history.specs.Shares as shares
 use Rattle.call_history.specs.Refusals as refusals
@@ -141,6 +151,31 @@ pub last-deleted : (e : ℕ) (store : Store) → ClubSheet (e ∷ []) store → 
     → outcome (plain clubs) (delete 0) tape store output .answer ≡ Changed n words
     → outcome (plain clubs) (delete 0) tape store output .store ≡ zeros
 last-deleted = sheets.last-deleted
+
+-- ---- the order of the counts
+
+-- For every number of levels the order of the tree has each of the numbers 1 to 2 ^ H - 1 once, and no other.
+pub tree-order : (H : ℕ) → 0 < H → (range : ℕ) → occurs range (treeOrder H 1) ≡ occurs range (up 1 (2 ^ H - 1))
+tree-order H low range = order-permutes range H low
+
+-- On any counts with an M that a sheet can have each conversion undoes the other.
+pub there-and-back : (counts : List ℕ) → Convertible clubs counts
+    → conversion clubs toNumber (conversion clubs toTree counts .counts) ≡ record { answer = Converted (getD counts 0 0); counts = counts }
+there-and-back = conversions.there-and-back clubs clubs-roomy
+
+pub back-and-there : (counts : List ℕ) → Convertible clubs counts
+    → conversion clubs toTree (conversion clubs toNumber counts .counts) ≡ record { answer = Converted (getD counts 0 0); counts = counts }
+back-and-there = conversions.back-and-there clubs clubs-roomy
+
+-- A sheet from before F-5 becomes the sheet of the same list with the same shape and slots.
+pub laid-converted : (list : List ℕ) (s : Shape) → IsList clubs list → IsShape (length list) s
+    → toTreeOrder clubs (layNumbered clubs list s) ≡ layOut clubs list s
+laid-converted = orders.laid-converted clubs clubs-roomy
+
+-- Every call on a converted store gives the answer and the output that it gave, and leaves the converted store.
+pub calls-converted : (call : Call) (tape : List ℕ) (store : Store) (output : List ℕ)
+    → outcome (plain clubs) call tape (toTreeOrder clubs store) output ≡ converted (toTreeOrder clubs) (outcome (inNumberOrder clubs) call tape store output)
+calls-converted = orders.calls-converted clubs clubs-roomy
 
 -- ---- the program
 

@@ -9,11 +9,18 @@ use Rattle.call_outcomes.specs.Returns.{returned}
 use Rattle.call_outcomes.specs.Outcome.{Outcome, outcome}
 use Rattle.call_outcomes.specs.Plain.{plain, Call}
 use Rattle.call_outcomes.specs.Clubs.{clubs}
+use Rattle.call_orders.specs.Conversion.{Conversion, conversion}
 
 pub record Handed : Type 0 where
   pub number : ℕ
   pub store : Store
   pub output : List ℕ
+  pub answer : List ℕ
+
+-- The same of a conversion, which has the counts alone.
+pub record HandedCounts : Type 0 where
+  pub number : ℕ
+  pub counts : List ℕ
   pub answer : List ℕ
 
 -- The two values, put at the front of the answer slice.
@@ -34,3 +41,15 @@ unfoldable pub handed : Call → List ℕ → Store → List ℕ → List ℕ �
 handed call tape store output answer =
     ifLt (length answer) 2 (record { number = 255; store = store; output = output; answer = answer })
     (handedBy (outcome (plain clubs) call tape store output) answer)
+
+-- A conversion of the counts, handed over likewise.
+unfoldable pub handedCountsBy : Conversion → List ℕ → HandedCounts
+handedCountsBy c answer = record {
+  number = returned (c .answer) .number;
+  counts = c .counts;
+  answer = filled (returned (c .answer)) answer;
+}
+
+unfoldable pub handedConversion : (List ℕ → List ℕ) → List ℕ → List ℕ → HandedCounts
+handedConversion convert counts answer =
+    ifLt (length answer) 2 (record { number = 255; counts = counts; answer = answer }) (handedCountsBy (conversion clubs convert counts) answer)

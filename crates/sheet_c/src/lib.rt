@@ -1,4 +1,4 @@
-// The six calls for programs in C: the number of the cause is returned, and the two values stand in an answer slice.
+// The calls for programs in C: the number of the cause is returned, and the two values stand in an answer slice.
 ghost use mathlib.Core.Path.{_≡_};
 ghost use mathlib.Core.List.{[]};
 ghost use Prim.Native.Nat.{_≤_};
@@ -6,7 +6,8 @@ ghost use lib.ListN.{length};
 ghost use Rattle.call_outcomes.specs.Kind.{clear};
 ghost use Rattle.call_outcomes.specs.Plain as call;
 ghost use Rattle.call_outcomes.specs.Plain.{storeOf};
-ghost use Rattle.sheet_c.specs.Handed.{filled, handed};
+ghost use Rattle.call_orders.specs.Conversion.{toTree, toNumber};
+ghost use Rattle.sheet_c.specs.Handed.{filled, handed, handedConversion};
 use call_outcomes::Returned;
 use tree_rules::Change;
 
@@ -133,4 +134,28 @@ pub extern "C" fn sheet_check(slots: &[u64], counts: &[u16], answer: &mut [u64])
         return 255;
     }
     hand(sheet_calls::check(slots, counts).returned(), answer)
+}
+
+// Counts in the order of the range numbers, put into the tree order.
+#[no_mangle]
+pub extern "C" fn sheet_to_tree_order(counts: &mut [u16], answer: &mut [u64]) -> usize
+    ensures { λ r. ⌜ record { number = r; counts = now (counts .exit); answer = now (answer .exit) }
+        ≡ handedConversion toTree (now (counts .entry)) (now (answer .entry)) ⌝ }
+{
+    if answer.len() < 2 {
+        return 255;
+    }
+    hand(sheet_orders::to_tree_order(counts).returned(), answer)
+}
+
+// Counts in the tree order, put back into the order of the range numbers.
+#[no_mangle]
+pub extern "C" fn sheet_to_number_order(counts: &mut [u16], answer: &mut [u64]) -> usize
+    ensures { λ r. ⌜ record { number = r; counts = now (counts .exit); answer = now (answer .exit) }
+        ≡ handedConversion toNumber (now (counts .entry)) (now (answer .entry)) ⌝ }
+{
+    if answer.len() < 2 {
+        return 255;
+    }
+    hand(sheet_orders::to_number_order(counts).returned(), answer)
 }

@@ -1,2 +1,2 @@
--- The order of the counts of a store, as the code knows it.
-pub mod SameOrder
+-- What the code that reads and writes the counts of a store uses.
+pub mod WholeLaws

@@ -10,7 +10,7 @@ use Rattle.tree_sizes.specs.Sizes.{height, candidates, windowStart}
 use Rattle.tree_rules.specs.Tree.{Tree, leaf, node, Shape}
 use Rattle.tree_counts.specs.Counts.{shapeIn}
 use Rattle.store_layout.specs.Leaf.{nonzero}
-use Rattle.store_layout.specs.CountOrder.{numberOrder}
+use Rattle.store_order.specs.CountOrder.{numberOrder}
 use Rattle.store_layout.specs.declared.Capacity.{Capacity}
 use Rattle.store_layout.specs.Layout.{Store, layOut}
 
@@ -39,12 +39,16 @@ balancedTest M (suc levels) d n (node b l r) =
 unfoldable pub shapeTest : ℕ → Shape → Bool
 shapeTest N s = leb N (s .size) && leb (s .size) (2 * N - 1) && balancedTest (s .size) (height (s .size)) 0 N (s .tree)
 
+-- The list, of so many entries at most, and the shape are contents, and lay the store out.
+unfoldable pub laidTest : (List ℕ → Shape → Store) → ℕ → List ℕ → Shape → Store → Bool
+laidTest lay entries list s store =
+    leb (length list) entries
+    && shapeTest (length list) s
+    && equalLists (store .slots) (lay list s .slots)
+    && equalLists (store .counts) (lay list s .counts)
+
 unfoldable pub sheetTest : Capacity → Store → Bool
-sheetTest cap store =
-    leb (length (listOf store)) (cap .entries)
-    && shapeTest (length (listOf store)) (shapeOf store)
-    && equalLists (store .slots) (layOut cap (listOf store) (shapeOf store) .slots)
-    && equalLists (store .counts) (layOut cap (listOf store) (shapeOf store) .counts)
+sheetTest cap store = laidTest (layOut cap) (cap .entries) (listOf store) (shapeOf store) store
 
 -- The list and shape that lay the store out, if it is a sheet.
 pub record Contents : Type 0 where

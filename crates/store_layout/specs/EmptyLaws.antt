@@ -16,7 +16,7 @@ use Rattle.tree_counts.specs.ShapeCountLaws.{length-shapeCounts}
 use Rattle.store_layout.specs.declared.Capacity.{Capacity}
 use Rattle.store_layout.specs.Leaf.{putEntries, spread}
 use Rattle.store_layout.specs.Layout.{leafCounts, layLeaves, padTo, laySlots, layCounts, layOut}
-use Rattle.store_layout.specs.CountOrderLaws.{length-countOrder, every-countOrder}
+use Rattle.store_order.specs.CountOrderLaws.{length-countOrder, every-countOrder}
 
 abbrev emptyShape : Shape
 emptyShape = record { size = 0; tree = leaf }

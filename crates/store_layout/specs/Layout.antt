@@ -8,7 +8,7 @@ use Rattle.tree_rules.specs.Tree.{Tree, leaf, node, Shape}
 use Rattle.tree_counts.specs.Counts.{shapeCounts}
 use Rattle.store_layout.specs.declared.Capacity.{Capacity}
 use Rattle.store_layout.specs.Leaf.{spread}
-use Rattle.store_layout.specs.CountOrder.{countOrder}
+use Rattle.store_order.specs.CountOrder.{countOrder}
 
 -- The store: two lent slices.
 pub record Store : Type 0 where

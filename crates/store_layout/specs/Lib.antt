@@ -1,6 +1,5 @@
 -- The layout of a sheet: definitions first, then their laws.
 pub mod Leaf
-pub mod CountOrder
 pub mod Layout
 pub mod Sheet
 pub mod Decode
@@ -10,7 +9,6 @@ pub mod Quotient
 pub mod Pass
 pub mod Examples
 pub mod LeafLaws
-pub mod CountOrderLaws
 pub mod QuotientLaws
 pub mod NumberedLaws
 pub mod LayoutLaws

@@ -5,10 +5,10 @@ use Prim.Native.Nat.{ℕ, _*_, _^_, _≤_}
 use lib.ListN.{length, getD}
 use Rattle.base.specs.Lists.{Every}
 use Rattle.tree_sizes.specs.Sizes.{height}
-use Rattle.store_layout.specs.CountOrder.{countOrder}
+use Rattle.store_order.specs.CountOrder.{countOrder}
 use Rattle.store_layout.specs.Layout.{Store}
 use Rattle.store_layout.specs.Decode.{numbered}
-use Rattle.store_layout.specs.CountOrderLaws.{length-numberOrder, countOrder-size, numberOrder-size, numberOrder-root, every-numberOrder, number-count, count-number}
+use Rattle.store_order.specs.CountOrderLaws.{length-numberOrder, countOrder-size, numberOrder-size, numberOrder-root, every-numberOrder, number-count, count-number}
 
 module _ (store : Store) where
   pub length-numbered : length (numbered store) ≡ length (store .counts)

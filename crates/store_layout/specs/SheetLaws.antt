@@ -23,10 +23,10 @@ use Rattle.store_layout.specs.Leaf.{nonzero}
 use Rattle.store_layout.specs.declared.Capacity.{Capacity}
 use Rattle.store_layout.specs.Layout.{Store, leafCounts, layLeaves, padTo, laySlots, layCounts, layOut}
 use Rattle.store_layout.specs.Sheet.{IsContents, IsSheet}
-use Rattle.store_layout.specs.Decode.{numbered, listOf, shapeOf, balancedTest, shapeTest, sheetTest, Contents, decode}
+use Rattle.store_layout.specs.Decode.{numbered, listOf, shapeOf, balancedTest, shapeTest, laidTest, sheetTest, Contents, decode}
 use Rattle.store_layout.specs.Room.{Roomy}
 use Rattle.store_layout.specs.LeafLaws.{nonzero-positive, nonzero-append, nonzero-zeros}
-use Rattle.store_layout.specs.CountOrderLaws.{length-countOrder, countOrder-size, countOrder-root, number-count}
+use Rattle.store_order.specs.CountOrderLaws.{length-countOrder, countOrder-size, countOrder-root, number-count}
 use Rattle.store_layout.specs.NumberedLaws.{numbered-size}
 use Rattle.store_layout.specs.LayoutLaws.{length-leafCounts, leafCounts-total, leafCounts-fit, length-layLeaves, nonzero-layLeaves}
 
@@ -158,7 +158,7 @@ module _ (cap : Capacity) (list : List ℕ) (s : Shape) (w : IsContents cap list
     shapeOf-layOut = rw numbered-layOut (shapeIn-shapeCounts (cap .counts) (length list) s contents-perfect counts-room)
 
   pub test-layOut : Roomy cap → sheetTest cap (layOut cap list s) ≡ true
-  unfolding sheetTest
+  unfolding sheetTest laidTest
   test-layOut roomy =
       rw (
         listOf-layOut,
@@ -172,26 +172,30 @@ module _ (cap : Capacity) (list : List ℕ) (s : Shape) (w : IsContents cap list
   pub decode-complete : Roomy cap → decode cap (layOut cap list s) ≡ some (record { list = list; shape = s })
   decode-complete roomy = decode-true cap (layOut cap list s) (test-layOut roomy) ∙ rw (listOf-layOut, shapeOf-layOut roomy)
 
+-- What passes the test, by whatever layout.
+pub laid-sound : (lay : List ℕ → Shape → Store) (entries : ℕ) (list : List ℕ) (s : Shape) (store : Store) → laidTest lay entries list s store ≡ true
+    → (length list ≤ entries) × IsShape (length list) s × (store ≡ lay list s)
+unfolding laidTest
+laid-sound lay entries list s store h =
+    let few = leb (length list) entries in
+    let shape = shapeTest (length list) s in
+    let same = equalLists (store .slots) (lay list s .slots) in
+    let counts = and-both (few && shape && same) _ h in
+    let slots = and-both (few && shape) _ (counts .0) in
+    let shaped = and-both few _ (slots .0) in (
+      leb-true (length list) entries (shaped .0),
+      shape-sound (length list) s (shaped .1),
+      ap₂ {C = Store} (λ (xs ys : List ℕ). record { slots = xs; counts = ys })
+          (equal-sound (store .slots) (lay list s .slots) (slots .1))
+          (equal-sound (store .counts) (lay list s .counts) (counts .1)),
+    )
+
 pub test-sound : (cap : Capacity) (store : Store) → sheetTest cap store ≡ true
     → IsContents cap (listOf store) (shapeOf store) × (store ≡ layOut cap (listOf store) (shapeOf store))
 unfolding sheetTest listOf
 test-sound cap store h =
-    let laid = layOut cap (listOf store) (shapeOf store) in
-    let few = leb (length (listOf store)) (cap .entries) in
-    let shape = shapeTest (length (listOf store)) (shapeOf store) in
-    let same = equalLists (store .slots) (laid .slots) in
-    let counts = and-both (few && shape && same) _ h in
-    let slots = and-both (few && shape) _ (counts .0) in
-    let shaped = and-both few _ (slots .0) in (
-      record {
-        room = leb-true (length (listOf store)) (cap .entries) (shaped .0);
-        entries = nonzero-positive (store .slots);
-        shape = shape-sound (length (listOf store)) (shapeOf store) (shaped .1);
-      },
-      ap₂ {C = Store} (λ (xs ys : List ℕ). record { slots = xs; counts = ys })
-          (equal-sound (store .slots) (laid .slots) (slots .1))
-          (equal-sound (store .counts) (laid .counts) (counts .1)),
-    )
+    let laid = laid-sound (layOut cap) (cap .entries) (listOf store) (shapeOf store) store h in
+    (record { room = laid .0; entries = nonzero-positive (store .slots); shape = laid .1 }, laid .2)
 
 pub test-sheet : (cap : Capacity) (store : Store) → sheetTest cap store ≡ true → IsSheet cap store
 test-sheet cap store h =

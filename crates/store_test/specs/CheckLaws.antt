@@ -21,7 +21,7 @@ use Rattle.tree_counts.specs.CountLaws.{read-perfect}
 use Rattle.tree_counts.specs.ShapeCountLaws.{length-shapeCounts, shapeCounts-holds, shapeCounts-only, shapeCounts-size, shapeCounts-total, shapeCounts-unused}
 use Rattle.store_layout.specs.Leaf.{spread, nonzero}
 use Rattle.store_layout.specs.declared.Capacity.{Capacity}
-use Rattle.store_layout.specs.CountOrder.{countOrder}
+use Rattle.store_order.specs.CountOrder.{countOrder}
 use Rattle.store_layout.specs.Layout.{Store, leafCounts, layLeaves, padTo, laySlots, layCounts, layOut}
 use Rattle.store_layout.specs.Sheet.{IsContents, IsSheet}
 use Rattle.store_layout.specs.Decode.{numbered, sheetTest}
@@ -30,7 +30,7 @@ use Rattle.store_zeros.specs.AllZero.{allZero}
 use Rattle.store_test.specs.Check.{leafTest, leavesTest, treeTest, countsTest, slotsTest, storeTest}
 use Rattle.store_layout.specs.LeafLaws.{nonzero-positive, length-spread, nonzero-append}
 use Rattle.store_layout.specs.LayoutLaws.{length-leafCounts, holds-leaves, leafCounts-total, leafCounts-fit, length-layLeaves}
-use Rattle.store_layout.specs.CountOrderLaws.{countOrder-size}
+use Rattle.store_order.specs.CountOrderLaws.{countOrder-size}
 use Rattle.store_layout.specs.NumberedLaws.{numbered-given}
 use Rattle.store_layout.specs.SheetLaws.{numbered-layOut, size-layOut, sheet-test, test-sheet}
 use Rattle.store_zeros.specs.ZeroLaws.{zero-behind, zero-behind-test, zero-sound, zero-test}

@@ -16,7 +16,7 @@ use Rattle.tree_sizes.specs.SizeLaws.{leafSlots-most, height-most, height-small
 use Rattle.tree_sizes.specs.Fit.{fit}
 use Rattle.tree_counts.specs.Counts.{shapeIn}
 use Rattle.store_layout.specs.declared.Capacity.{Capacity}
-use Rattle.store_layout.specs.CountOrder.{countOrder}
+use Rattle.store_order.specs.CountOrder.{countOrder}
 use Rattle.store_layout.specs.Decode.{sheetTest}
 use Rattle.store_layout.specs.Room.{CapacityReady}
 use Rattle.store_test.specs.Ready.{LeavesTestReady, TreeTestReady, CountsTestReady, SlotsTestReady}

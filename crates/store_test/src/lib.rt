@@ -5,7 +5,7 @@ ghost use lib.ListN.{length, getD, take, drop};
 ghost use Rattle.store_layout.specs.Leaf.{nonzero};
 ghost use Rattle.store_layout.specs.Decode.{sheetTest};
 ghost use Rattle.store_layout.specs.Room.{CapacityReady};
-ghost use Rattle.store_layout.specs.CountOrder.{countOrder};
+ghost use Rattle.store_order.specs.CountOrder.{countOrder};
 ghost use Rattle.tree_sizes.specs.Sizes.{height};
 ghost use Rattle.store_test.specs.Ready.{LeafTestReady, LeavesTestReady, RangeTestReady, BranchTestReady, TreeTestReady, CountsTestReady, SlotsTestReady};
 ghost use Rattle.store_test.specs.Check.{leafTest, leavesTest, rangeTest, branchTest, treeTest, countsTest, slotsTest};

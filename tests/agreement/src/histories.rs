@@ -1,4 +1,5 @@
-//! Random histories of calls, with refused calls among them.
+//! Random histories of calls, with refused calls and conversions of the order of
+//! the counts among them.
 
 use crate::{Both, Call, Store};
 use reference::random::SplitMix64;
@@ -62,6 +63,19 @@ fn some_call(random: &mut SplitMix64, n: usize, target: usize) -> Call {
     }
 }
 
+/// The counts go to number order and back. In number order the store is no sheet
+/// where M > 64: some range has another count than its halves together. The
+/// numbers that the calls returned.
+fn to_and_fro(both: &mut Both) -> [u64; 3] {
+    let sheet = both.store.clone();
+    let [there, m, _] = both.call(Call::ToNumberOrder);
+    let [between, _, _] = both.call(Call::Check);
+    assert_eq!((there, between), (0, if m > 64 { 2 } else { 0 }), "M {m}");
+    let [back, _, _] = both.call(Call::ToTreeOrder);
+    assert!(both.store == sheet, "M {m}");
+    [there, between, back]
+}
+
 /// A history of so many calls, by way of each of the targets; how many calls
 /// met each cause.
 pub fn history(seed: u64, calls: u64, targets: &[usize]) -> [u64; 8] {
@@ -74,6 +88,12 @@ pub fn history(seed: u64, calls: u64, targets: &[usize]) -> [u64; 8] {
     while both.made() < calls {
         if both.store.n() == target || random.below(3000) == 0 {
             target = targets[random.below(targets.len())];
+        }
+        if random.below(50) == 0 && both.made() + 3 <= calls {
+            for number in to_and_fro(&mut both) {
+                met[number as usize] += 1;
+            }
+            continue;
         }
         let call = some_call(&mut random, both.store.n(), target);
         met[both.call(call)[0] as usize] += 1;

@@ -6,8 +6,8 @@ pub mod lines;
 pub mod program;
 pub mod proved;
 
-use reference::calls;
 use reference::layout::{COUNTS, SLOTS};
+use reference::{calls, conversions};
 use std::fs;
 use std::io::{self, Write};
 use std::path::Path;
@@ -23,6 +23,8 @@ pub enum Call {
     Read { first: usize, last: usize, output: Vec<u64> },
     Place { rank: usize },
     Check,
+    ToTreeOrder,
+    ToNumberOrder,
 }
 
 #[derive(Clone, PartialEq, Eq)]
@@ -59,6 +61,8 @@ fn by_reference(call: &Call, store: &mut Store) -> (Returned, Vec<u64>) {
         }
         Call::Place { rank } => calls::place(slots, counts, *rank),
         Call::Check => calls::check(slots, counts),
+        Call::ToTreeOrder => conversions::to_tree_order(counts),
+        Call::ToNumberOrder => conversions::to_number_order(counts),
     };
     let [first, second] = answer.values();
     ([answer.number() as u64, first as u64, second as u64], out)

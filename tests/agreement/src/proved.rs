@@ -42,6 +42,8 @@ extern "C" {
     ) -> usize;
     fn sheet_place(slots: *const u64, slots_len: usize, counts: *const u16, counts_len: usize, rank: usize, answer: *mut u64, answer_len: usize) -> usize;
     fn sheet_check(slots: *const u64, slots_len: usize, counts: *const u16, counts_len: usize, answer: *mut u64, answer_len: usize) -> usize;
+    fn sheet_to_tree_order(counts: *mut u16, counts_len: usize, answer: *mut u64, answer_len: usize) -> usize;
+    fn sheet_to_number_order(counts: *mut u16, counts_len: usize, answer: *mut u64, answer_len: usize) -> usize;
     fn frame_kind(line: *const u8, line_len: usize) -> u8;
     fn frame_step(
         line: *const u8,
@@ -79,6 +81,8 @@ pub fn call_with(call: &Call, store: &mut Store, room: usize) -> (u64, Vec<u64>,
             }
             Call::Place { rank } => sheet_place(s, s_len, c, c_len, *rank, a, a_len),
             Call::Check => sheet_check(s, s_len, c, c_len, a, a_len),
+            Call::ToTreeOrder => sheet_to_tree_order(c, c_len, a, a_len),
+            Call::ToNumberOrder => sheet_to_number_order(c, c_len, a, a_len),
         }
     };
     (number as u64, answer, out)

@@ -1,4 +1,4 @@
-//! Long random histories on both, with refused calls among them.
+//! Long random histories on both, with refused calls and conversions among them.
 
 use agreement::histories::{history, BORDER, FULL, SHORT};
 use agreement::{say, Both, Call, Store};
@@ -25,13 +25,13 @@ fn short_lists() {
 #[test]
 fn from_one_range_to_many() {
     let met = histories(100..110, 10_000, BORDER);
-    assert!(met[0] > 0 && met[3] > 0 && met[4] > 0 && met[6] > 0 && met[7] > 0, "{met:?}");
+    assert!(met[0] > 0 && met[2] > 0 && met[3] > 0 && met[4] > 0 && met[6] > 0 && met[7] > 0, "{met:?}");
 }
 
 #[test]
 fn full_and_back() {
     let met = histories(200..204, 25_000, FULL);
-    assert!(met[0] > 0 && met[5] > 0 && met[6] > 0 && met[7] > 0, "{met:?}");
+    assert!(met[0] > 0 && met[2] > 0 && met[5] > 0 && met[6] > 0 && met[7] > 0, "{met:?}");
 }
 
 /// Document 01: N 1,024, insert at rank 1,024 gives 5, at rank 1,025 gives 4.

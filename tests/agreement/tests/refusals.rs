@@ -1,8 +1,9 @@
-//! Damaged stores, stores by the former leaf rule, wrong lengths, tapes that end
-//! at every place, and answer slices that are too short, on both.
+//! Damaged stores, stores by the former leaf rule and in the former order, wrong
+//! lengths, tapes that end at every place, and answer slices that are too short,
+//! on both.
 
 use agreement::{proved, Both, Call, Store};
-use reference::layout::{Node, Shape, COUNTS, ROOT, SIZE, SLOTS};
+use reference::layout::{Node, Shape, COUNTS, SIZE, SLOTS};
 use reference::random::SplitMix64;
 
 fn tape(random: &mut SplitMix64) -> Vec<u32> {
@@ -77,13 +78,13 @@ fn sheet_of_size(list: &[u64], m: usize, random: &mut SplitMix64) -> Store {
     let shape = Shape::of(m);
     let (mut slots, mut counts) = ([0; SLOTS], [0; COUNTS]);
     counts[SIZE] = m as u16;
-    counts[ROOT] = list.len() as u16;
-    for depth in 0..shape.height {
-        for k in 1 << depth..2 << depth {
-            let candidates = shape.candidate_positions(depth, usize::from(counts[k]));
-            counts[2 * k] = (candidates.start + random.below(candidates.len())) as u16;
-            counts[2 * k + 1] = counts[k] - counts[2 * k];
-        }
+    shape.set_count(&mut counts, Node::ROOT, list.len());
+    for node in (0..shape.height).flat_map(Node::all_at) {
+        let n = shape.count(&counts, node);
+        let candidates = shape.candidate_positions(node.depth, n);
+        let balance = candidates.start + random.below(candidates.len());
+        shape.set_count(&mut counts, node.left(), balance);
+        shape.set_count(&mut counts, node.right(), n - balance);
     }
     shape.lay_out(Node::ROOT, &mut slots, &counts, list);
     Store {
@@ -134,6 +135,29 @@ fn leaf_rule_of_document_01() {
     assert!(accepted > 0 && refused > 0, "{accepted} accepted, {refused} refused");
 }
 
+/// The order of document 01, which document 02, F-5, replaces: every call that
+/// tests the sheet meets cause 2 where M > 64. Converted, the store is the sheet
+/// again.
+#[test]
+fn number_order() {
+    let mut random = SplitMix64::new(62);
+    for n in (0..=130).chain((131..=1024).step_by(7)) {
+        let list: Vec<u64> = (0..n).map(|_| random.entry()).collect();
+        for m in [n, n + random.below(n.max(1)), (2 * n).max(1) - 1] {
+            let sheet = sheet_of_size(&list, m, &mut random);
+            let mut both = Both::new(62, sheet.clone());
+            assert_eq!(both.call(Call::ToNumberOrder), [0, m as u64, 0]);
+            assert_eq!(both.store == sheet, m <= 64, "N {n} M {m}");
+            if m > 64 {
+                assert_eq!(all_calls(62, &both.store), [2, 2, 2, 2, 2, 0], "N {n} M {m}");
+            }
+            assert_eq!(both.call(Call::ToTreeOrder), [0, m as u64, 0]);
+            assert!(both.store == sheet, "N {n} M {m}");
+            assert_eq!(both.call(Call::Check), [0, n as u64, 0], "N {n} M {m}");
+        }
+    }
+}
+
 #[test]
 fn wrong_lengths() {
     let before = sheet(21, 40);
@@ -180,6 +204,8 @@ fn short_answers() {
             Call::Delete { rank: 0, tape: vec![1; 2048] },
             Call::Read { first: 0, last: 0, output: vec![5; 2] },
             Call::Place { rank: 0 },
+            Call::ToTreeOrder,
+            Call::ToNumberOrder,
         ] {
             let mut store = before.clone();
             let (number, answer, output) = proved::call_with(&call, &mut store, room);

@@ -7,6 +7,7 @@ use agreement::{lines, proved, Store};
 use reference::frames::{self, Program, Waiting, WAITING_WORDS};
 use reference::layout::{COUNTS, SLOTS};
 use reference::random::SplitMix64;
+use reference::{calls, conversions};
 
 /// The length of the longest answer.
 const LONGEST: usize = 69_012;
@@ -69,6 +70,31 @@ fn no_sheets() {
         let bytes = proved::step(line, &mut store, &mut tape, &mut waiting, &mut output);
         assert_eq!(output[..bytes], expected[..], "turn {turn}, {}", line.escape_ascii());
         assert!(store == other, "turn {turn}");
+    }
+}
+
+/// A store left in number order is refused by the frames that test the sheet; its
+/// tape frame is answered, and clear makes it the empty sheet.
+#[test]
+fn number_order() {
+    let mut random = SplitMix64::new(2200);
+    let mut sheet = cleared();
+    for n in 0..100 {
+        let mut words = vec![0; 200];
+        random.fill(&mut words);
+        let answer = calls::insert(&mut sheet.slots, &mut sheet.counts, random.below(n + 1), random.entry(), &words);
+        assert_eq!(answer.number(), 0);
+    }
+    conversions::to_number_order(&mut sheet.counts);
+    for (line, cause) in [("010000000000000000000A", 2), ("020000", 2), ("0300000001", 2), ("05", 2), ("070000", 2), ("0400000001", 0), ("06", 0)] {
+        let (mut store, mut other) = (sheet.clone(), sheet.clone());
+        let (mut expected, mut empty) = (Vec::new(), Waiting::new());
+        frames::step(line.as_bytes(), &mut other.slots, &mut other.counts, &mut empty, &mut expected);
+        assert_eq!(&expected[2..4], format!("{cause:02}").as_bytes(), "{line}");
+        let (mut tape, mut waiting, mut output) = (vec![0; WAITING_WORDS], [0], vec![0; LONGEST]);
+        let bytes = proved::step(line.as_bytes(), &mut store, &mut tape, &mut waiting, &mut output);
+        assert_eq!(output[..bytes].escape_ascii().to_string(), expected.escape_ascii().to_string(), "{line}");
+        assert!(store == other, "{line}");
     }
 }
 

@@ -47,6 +47,8 @@ pub enum Answer {
     Placed { place: usize, points: usize },
     /// Check: N.
     Checked { n: usize },
+    /// A conversion of the order of the counts: M.
+    Converted { m: usize },
     /// Refused; all slices are as they were.
     Refused(Cause),
 }
@@ -68,6 +70,7 @@ impl Answer {
             Answer::Read { entries } => [entries, 0],
             Answer::Placed { place, points } => [place, points],
             Answer::Checked { n } => [n, 0],
+            Answer::Converted { m } => [m, 0],
         }
     }
 }
@@ -224,7 +227,7 @@ pub fn delete_from<S: Source>(
 fn carry_out(old: &Shape, plan: &Plan, entry: u64, slots: &mut Slots, counts: &mut Counts) {
     let mut list = [0; MAX_ENTRIES];
     let node = plan.node;
-    let n = usize::from(counts[node.number]);
+    let n = old.count(counts, node);
     old.gather(node, slots, counts, &mut list[..n]);
     let rank = plan.change.rank();
     match plan.change {
@@ -241,7 +244,7 @@ fn carry_out(old: &Shape, plan: &Plan, entry: u64, slots: &mut Slots, counts: &m
     } else {
         Shape::of(plan.m())
     };
-    let n = usize::from(counts[node.number]);
+    let n = new.count(counts, node);
     new.lay_out(node, slots, counts, &list[..n]);
 }
 
@@ -268,7 +271,7 @@ fn checked(slots: &Slots, counts: &Counts) -> Result<Sheet, Cause> {
     sheet_in(slots, counts).ok_or(Cause::NotASheet)
 }
 
-/// The length that the counts of a sheet tell.
+/// The length that the counts of a sheet tell: the root stands at 1 in any tree.
 pub(crate) fn length(counts: &[u16]) -> usize {
     counts.get(ROOT).copied().map_or(0, usize::from)
 }

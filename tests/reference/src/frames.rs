@@ -1,7 +1,7 @@
 //! The lines of the program (01, "Frames").
 
 use crate::calls::{self, Answer, Cause};
-use crate::layout::{Counts, Shape, Slots, COUNTS, SIZE, SLOTS};
+use crate::layout::{Counts, Node, Shape, Slots, COUNTS, SIZE, SLOTS};
 use std::io::{self, BufRead, ErrorKind, Write};
 
 /// The most words of a tape line.
@@ -258,11 +258,12 @@ fn put_sheet(out: &mut Vec<u8>, n: usize, slots: &[u64], counts: &[u16]) {
         return;
     }
     let shape = Shape::of(m);
-    let leaves = slots.chunks_exact(shape.leaf_slots).take(shape.leaves());
-    for (leaf, leaf_slots) in leaves.enumerate() {
+    let counts: &Counts = counts.try_into().expect("a sheet has 256 counts");
+    let leaves = Node::all_at(shape.height).zip(slots.chunks_exact(shape.leaf_slots));
+    for (leaf, (node, leaf_slots)) in leaves.enumerate() {
         put(out, 0x91, 1);
         put(out, leaf as u64, 2);
-        put(out, counts[shape.leaves() + leaf].into(), 2);
+        put(out, shape.count(counts, node) as u64, 2);
         leaf_slots.iter().for_each(|&slot| put(out, slot, 8));
         out.push(b'\n');
     }

@@ -1,5 +1,6 @@
 //! The store: where entries and counts stand, and whether a store is a sheet.
 
+use crate::order::{self, Places};
 use crate::sizes::{candidate_positions, Size, Spread, MAX_ENTRIES};
 use std::ops::{BitOr, Range};
 
@@ -11,12 +12,14 @@ pub const COUNTS: usize = 256;
 pub type Slots = [u64; SLOTS];
 pub type Counts = [u16; COUNTS];
 
-/// 01: "Count 0 holds the size parameter M", "Count 1 is the root range".
+/// 01: "Count 0 holds the size parameter M", "Count 1 is the root range". 02, F-5,
+/// leaves both where they are: "Count 0 stays first", and every tree begins with
+/// its root.
 pub const SIZE: usize = 0;
 pub const ROOT: usize = 1;
 
 /// The height of the largest sheet.
-const MAX_HEIGHT: usize = 7;
+pub const MAX_HEIGHT: usize = 7;
 
 /// A range of the tree: its number and its depth. 01: "range k has left half 2k
 /// and right half 2k+1."
@@ -47,8 +50,8 @@ impl Node {
     }
 
     /// All ranges at one depth, from left to right.
-    fn numbers_at(depth: usize) -> Range<usize> {
-        1 << depth..2 << depth
+    pub fn all_at(depth: usize) -> impl Iterator<Item = Node> {
+        (1 << depth..2 << depth).map(move |number| Node { number, depth })
     }
 }
 
@@ -59,6 +62,7 @@ pub struct Shape {
     pub height: usize,
     pub leaf_slots: usize,
     candidates: [usize; MAX_HEIGHT],
+    places: &'static Places,
 }
 
 impl Shape {
@@ -70,6 +74,7 @@ impl Shape {
             height: size.height(),
             leaf_slots: size.leaf_slots(),
             candidates: std::array::from_fn(|depth| size.candidates(depth)),
+            places: order::places(size.height()),
         }
     }
 
@@ -80,6 +85,15 @@ impl Shape {
     /// Slots of the whole sheet, all leaves together.
     pub fn slots(&self) -> usize {
         self.leaf_slots * self.leaves()
+    }
+
+    /// The count of a range, which stands at the range's place in the tree.
+    pub fn count(&self, counts: &Counts, node: Node) -> usize {
+        usize::from(counts[usize::from(self.places[node.number])])
+    }
+
+    pub fn set_count(&self, counts: &mut Counts, node: Node, n: usize) {
+        counts[usize::from(self.places[node.number])] = n as u16;
     }
 
     /// The number of candidates of a range above the leaves.
@@ -112,9 +126,12 @@ impl Shape {
         node: Node,
         counts: &'a Counts,
     ) -> impl Iterator<Item = (usize, usize)> + 'a {
-        let (leaves, leaf_slots) = (self.leaves(), self.leaf_slots);
-        self.leaves_under(node)
-            .map(move |leaf| (leaf * leaf_slots, usize::from(counts[leaves + leaf])))
+        let (first, leaf_slots) = (self.leaves(), self.leaf_slots);
+        let places = self.places;
+        self.leaves_under(node).map(move |leaf| {
+            let place = usize::from(places[first + leaf]);
+            (leaf * leaf_slots, usize::from(counts[place]))
+        })
     }
 
     /// Each slot that holds an entry under a range, in list order.
@@ -179,10 +196,10 @@ pub fn sheet_in(slots: &Slots, counts: &Counts) -> Option<Sheet> {
 fn counts_are_sound(shape: &Shape, counts: &Counts) -> bool {
     let halves_are_sound = (0..shape.height).all(|depth| {
         let c = shape.candidates(depth);
-        Node::numbers_at(depth).all(|k| {
-            let n = usize::from(counts[k]);
-            let left = usize::from(counts[2 * k]);
-            let right = usize::from(counts[2 * k + 1]);
+        Node::all_at(depth).all(|node| {
+            let n = shape.count(counts, node);
+            let left = shape.count(counts, node.left());
+            let right = shape.count(counts, node.right());
             // The balance entry is the one at position `left`.
             n == left + right && candidate_positions(n, c).map_or(false, |p| p.contains(&left))
         })

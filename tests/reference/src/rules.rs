@@ -152,7 +152,7 @@ fn rebuild<S: Source>(
     if node.depth == shape.height {
         return Ok(());
     }
-    let n = usize::from(counts[node.number]);
+    let n = shape.count(counts, node);
     let candidates = shape.candidate_positions(node.depth, n);
     let balance = candidates.start + draw(source, candidates.len())?;
     rebuild_halves(shape, counts, node, balance, source)
@@ -167,8 +167,9 @@ fn rebuild_halves<S: Source>(
     source: &mut S,
 ) -> Result<(), Undecided> {
     let (left, right) = (node.left(), node.right());
-    counts[left.number] = balance as u16;
-    counts[right.number] = counts[node.number] - balance as u16;
+    let n = shape.count(counts, node);
+    shape.set_count(counts, left, balance);
+    shape.set_count(counts, right, n - balance);
     rebuild(shape, counts, left, source)?;
     rebuild(shape, counts, right, source)
 }
@@ -185,12 +186,12 @@ fn walk_down<S: Source>(
     let mut node = Node::ROOT;
     let mut change = change;
     loop {
-        let n = usize::from(before[node.number]);
-        counts[node.number] = change.length_after(n) as u16;
+        let n = shape.count(before, node);
+        shape.set_count(&mut counts, node, change.length_after(n));
         if node.depth == shape.height {
             break;
         }
-        let balance = usize::from(before[node.left().number]);
+        let balance = shape.count(before, node.left());
         if range_changes(shape, &mut counts, node, n, balance, change, source)? {
             break;
         }
@@ -440,8 +441,9 @@ mod tests {
         let counts = counts_of_34();
         // Entries of 16: candidates at 7 and 8; of 18: at 8 and 9.
         assert_eq!(&counts[2..4], &[16, 18]);
-        assert_eq!(&counts[4..8], &[7, 9, 9, 9]);
-        assert_eq!(&counts[8..16], &[3, 4, 4, 5, 4, 5, 4, 5]);
+        // Each quarter before its own two leaves.
+        assert_eq!(&counts[4..10], &[7, 3, 4, 9, 4, 5]);
+        assert_eq!(&counts[10..16], &[9, 4, 5, 9, 4, 5]);
     }
 
     #[test]

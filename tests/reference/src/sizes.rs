@@ -4,6 +4,8 @@ use std::ops::Range;
 
 /// The longest list.
 pub const MAX_ENTRIES: usize = 1024;
+/// The largest M of a sheet.
+pub const MAX_SIZE: usize = 2 * MAX_ENTRIES - 1;
 
 /// The size parameter M. It gives its own g, height, slots and candidates.
 #[derive(Clone, Copy, Debug, PartialEq, Eq, PartialOrd, Ord)]

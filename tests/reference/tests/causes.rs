@@ -290,9 +290,13 @@ fn damage(store: &mut Store, random: &mut SplitMix64) {
 
 /// Moves one of the counted entries from a range to the range beside it.
 fn move_a_leaf_entry(store: &mut Store, random: &mut SplitMix64) {
-    let pair = 2 * (1 + random.below(COUNTS / 2 - 1));
-    if store.counts[pair] > 0 {
-        store.counts[pair] -= 1;
-        store.counts[pair + 1] += 1;
+    let left = 2 * (1 + random.below(COUNTS / 2 - 1));
+    if left >= 2 << height(m(store)) {
+        return;
+    }
+    let [left, right] = [left, left + 1].map(|range| Order::Tree.place(range, m(store)));
+    if store.counts[left] > 0 {
+        store.counts[left] -= 1;
+        store.counts[right] += 1;
     }
 }

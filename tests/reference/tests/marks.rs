@@ -1,5 +1,5 @@
 //! The cases of 01, "Marks round the course", that need calls or lines, with the
-//! leaf rule of 02, F-2. Those of sizes, candidates and draws stand beside the
+//! leaf rule and the order of the counts of 02, F-2 and F-5. Those of sizes, candidates and draws stand beside the
 //! code in `sizes` and `coins`.
 
 mod common;
@@ -30,7 +30,7 @@ fn slots_of_a_sheet_end_where_the_size_says() {
         let size = Size::new(m);
         assert_eq!(size.slots(), slots);
         // The last leaf has the last entry in its slot; nothing follows it.
-        let n = usize::from(store.counts[2 * size.leaves() - 1]);
+        let n = count(&store, 2 * size.leaves() - 1);
         let leaf = slots as usize - size.leaf_slots();
         let last = leaf + leaf_slot(n - 1, n, size.leaf_slots());
         assert_eq!(store.slots[last], list[list.len() - 1]);

@@ -256,7 +256,7 @@ fn print_tells_every_leaf() {
         for leaf in 0..leaves {
             let slots = &program.slots()[leaf * leaf_slots..(leaf + 1) * leaf_slots];
             let slots: String = slots.iter().map(|slot| format!("{slot:016X}")).collect();
-            let count = program.counts()[leaves + leaf];
+            let count = program.counts()[Order::Tree.place(leaves + leaf, m)];
             assert_eq!(
                 lines.next(),
                 Some(format!("91{leaf:04X}{count:04X}{slots}").as_str())

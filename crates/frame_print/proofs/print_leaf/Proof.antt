@@ -4,11 +4,11 @@ use Rattle.frame_print.specs.PrintLaws.{leaf-wrote}
 use Rattle.frame_print.proofs.print_leaf.Statement.{statement}
 use Rattle.frame_print.proofs.print_leaf.Tie as tie
 
-add-range-count : tie.Need-add-range-count
-add-range-count c = search needs
+add-count-at : tie.Need-add-count-at
+add-count-at c = search needs
 
-range-count-requires : tie.Need-range-count-requires
-range-count-requires c κs = search needs
+count-at-requires : tie.Need-count-at-requires
+count-at-requires c κs = search needs
 
 mul-from : tie.Need-mul-from
 mul-from c = search needs
@@ -37,14 +37,14 @@ same-length c = search needs
 returns : tie.Need-returns
 returns c =
     let put = c .before .before in
-    leaf-wrote _ _ _ _ _ (put .before .before .before .range-count .ensures) (put .put-leaf .ensures)
+    leaf-wrote _ _ _ _ _ _ (put .before .before .before .count-at .ensures) (put .put-leaf .ensures)
 
 pub print-leaf-spec : {M : Type 1} → statement M
 print-leaf-spec =
     tie.close
     (tie.spec
-    add-range-count
-    range-count-requires
+    add-count-at
+    count-at-requires
     mul-from
     add-end
     mul-put-leaf

@@ -3,7 +3,6 @@ use borrow.Author.Needs.{needs}
 use Prim.Native.Nat.{suc, _-_, _≤_}
 use native.Mathlib.Omega.{arith}
 use native.Mathlib.Nat.{mul-le-mul-right}
-use Rattle.call_outcomes.specs.Plain.{storeOf}
 use Rattle.frame_replies.specs.WroteLaws.{wrote-length}
 use Rattle.frame_print.specs.Printed.{LeavesWritten}
 use Rattle.frame_print.specs.PrintLaws.{leaves-start, leaves-room, leaves-next, leaves-done}
@@ -11,7 +10,7 @@ use Rattle.frame_print.proofs.print_leaves.Statement.{statement}
 use Rattle.frame_print.proofs.print_leaves.Tie as tie
 
 abbrev Inv-loop : tie.InvT-loop
-Inv-loop slots counts s leaves output₀ at j₀ next₀ output j next = LeavesWritten (storeOf slots counts) s leaves output₀ at j output next
+Inv-loop slots counts s leaves output₀ at j₀ next₀ output j next = LeavesWritten slots counts s leaves output₀ at j output next
 
 abbrev μ-loop : tie.MeasureT-loop
 μ-loop slots counts s leaves output₀ at j₀ next₀ output j next = leaves - j
@@ -27,7 +26,7 @@ print-leaf-requires c κs =
       omega (arith, mul-le-mul-right (start .args .s) next, start .pre .0),
       (
         omega (arith, start .pre .1 .0),
-        (start .pre .1 .1 .0, leaves-room (c .before .before .loop .inv) (c .before .loop-test .taken)),
+        leaves-room (c .before .before .loop .inv) (c .before .loop-test .taken),
       ),
     )
 

@@ -11,7 +11,7 @@ use Rattle.frame_print.proofs.print_sheet.Statement.{statement}
 use Rattle.frame_print.proofs.print_sheet.Tie as tie
 
 shared-slice-read-m : tie.Need-shared-slice-read-m
-shared-slice-read-m c = size-there _ (c .before .before .before .before .pre .0)
+shared-slice-read-m c = search needs
 
 cast-m : tie.Need-cast-m
 cast-m c = search needs
@@ -51,24 +51,37 @@ numbers c =
     let start = c .before .before .before .before .before .before .before .before .before .before .before .before .before in
     leaf-numbers _ (start .pre .0) _ _ _ (c .before .before .leaf-slots .ensures) (c .before .height .ensures) (c .power .ensures)
 
+slice-aggregate-read-counts : tie.Need-slice-aggregate-read-counts
+slice-aggregate-read-counts c = search needs
+
+read-counts-requires : tie.Need-read-counts-requires
+read-counts-requires c κs = search needs
+
+slice-aggregate-print-leaves : tie.Need-slice-aggregate-print-leaves
+slice-aggregate-print-leaves c = search needs
+
 print-leaves-requires : tie.Need-print-leaves-requires
 print-leaves-requires c κs =
-    let n = numbers (c .before) in
-    let put = c .before .before .before .before .before .before .before in
+    let n = numbers (c .before .before .before .before .before) in
+    let put = c .before .before .before .before .before .before .before .before .before .before .before in
     let start = put .before .before .before .before .before .before .before in
-    let most = leavesMost (storeOf (now (start .args .slots)) (now (start .args .counts))) in
-    (n .slots-fit, (n .counts-fit, (start .pre .0 .counts-fit, omega (arith, n .output-fits, wrote-room (put .put-sheet .ensures) 11 most (length-sheet _ _) (omega arith)))))
+    let most = leavesMost (storeOf (now (start .args .slots)) (now (start .args .counts))) in (
+      n .slots-fit,
+      (
+        omega (arith, n .counts-fit, c .before .before .before .read-counts .kept .1 .0, start .pre .0 .counts-are),
+        omega (arith, n .output-fits, wrote-room (put .put-sheet .ensures) 11 most (length-sheet _ _) (omega arith)),
+      ),
+    )
 
 same-length-2 : tie.Need-same-length-2
 same-length-2 c = search needs
 
 returns-2 : tie.Need-returns-2
 returns-2 c =
-    let last = c .before .before in
-    let found = last .before .before in
+    let found = c .before .before .before .before .before .before .before .before in
     let put = found .before .before .before .before .before .before in
     sheet-leaves _ _ (rw (put .before .before .entry-count .ensures) at (put .put-sheet .ensures)) (found .before .before .before .if1 .left) (numbers found)
-    (last .print-leaves .ensures)
+    (c .before .before .before .before .before .before .read-counts .ensures) (c .before .before .print-leaves .ensures)
 
 pub print-sheet-spec : {M : Type 1} → statement M
 print-sheet-spec =
@@ -83,6 +96,9 @@ print-sheet-spec =
     leaf-slots-requires
     height-requires
     power-requires
+    slice-aggregate-read-counts
+    read-counts-requires
+    slice-aggregate-print-leaves
     print-leaves-requires
     same-length-2
     returns-2)

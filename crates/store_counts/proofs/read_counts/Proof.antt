@@ -1,68 +1,82 @@
--- `read_counts` meets its contract. The loop's invariant: the first i counts are copied.
-use mathlib.Core.Path.{sym, _∙_}
-use Prim.Native.Nat.{_-_, _≤_}
+-- `read_counts` meets its contract.
+use Prim.Native.Nat.{_+_, _^_, _≤_, _<_}
 use native.Mathlib.Omega.{arith}
 use borrow.Author.Needs.{needs}
-use lib.ListN.{length}
-use Rattle.store_slices.specs.Pasted.{Pasted}
-use Rattle.store_slices.specs.PastedLaws.{copied-next, copied-all}
-use Rattle.store_counts.specs.SameOrder.{number-same}
+use denote.Ref.{now}
+use lib.ListN.{length, getD}
+use lib.Pow.{pow-pos}
+use Rattle.tree_sizes.specs.Sizes.{height}
+use Rattle.store_counts.specs.WholeLaws.{double, levels-below, whole-ready, numbers-read, table-read}
 use Rattle.store_counts.proofs.read_counts.Statement.{statement}
 use Rattle.store_counts.proofs.read_counts.Tie as tie
 
-abbrev Inv-loop : tie.InvT-loop
-Inv-loop counts work₀ i₀ work i = (i ≤ length counts) × Pasted work₀ 0 counts i work
+shared-slice-read-m : tie.Need-shared-slice-read-m
+shared-slice-read-m c = omega (arith, c .before .before .before .pre .1, pow-pos (height (getD (now (c .before .before .before .args .counts)) 0 0)))
 
-abbrev μ-loop : tie.MeasureT-loop
-μ-loop counts work₀ i₀ work i = length counts - i
+cast-m : tie.Need-cast-m
+cast-m c = omega (arith, c .shared-slice-known2 .given 0)
 
-loop-holds : tie.Need-loop-holds Inv-loop μ-loop
-loop-holds c = search needs
+height-requires : tie.Need-height-requires
+height-requires c κs = search needs
 
-mul-count : tie.Need-mul-count Inv-loop μ-loop
-mul-count c = search needs
+-- The tree is inside the slice, and so its levels are few.
+room : (c : tie.After-height) → 2 ^ (c .height .result + 1) ≤ length (now (c .before .before .before .before .args .counts))
+room c = rw (c .height .ensures, double (height (getD (now (c .before .before .before .before .args .counts)) 0 0))) (c .before .before .before .before .pre .1)
 
-shared-slice-read-count : tie.Need-shared-slice-read-count Inv-loop μ-loop
-shared-slice-read-count c = search needs
+below : (c : tie.After-height) → c .height .result + 1 < 64
+below c = rw (c .height .ensures) (levels-below _ (c .before .before .before .before .pre .1) (omega arith))
 
-cast-work : tie.Need-cast-work Inv-loop μ-loop
-cast-work c = omega (arith, c .shared-slice-known .given (c .before .before .loop .i))
+add-levels : tie.Need-add-levels
+add-levels c = omega (arith, below c)
 
-mul-work : tie.Need-mul-work Inv-loop μ-loop
-mul-work c = search needs
+power-requires : tie.Need-power-requires
+power-requires c κs = below c
 
-slice-write-work : tie.Need-slice-write-work Inv-loop μ-loop
-slice-write-work c = search needs
+read-rest-requires : tie.Need-read-rest-requires
+read-rest-requires c κs = (
+  c .before .before .before .before .before .before .pre .0,
+  (rw (c .before .power .ensures) (pow-pos _), rw (c .before .power .ensures) (room (c .before .before))),
+)
 
-add-i : tie.Need-add-i Inv-loop μ-loop
-add-i c = search needs
+read-table-requires : tie.Need-read-table-requires
+read-table-requires c κs =
+    let inside = rw (c .before .if1 .taken) at (room (c .before .before .before .before .before .before .before)) in
+    (inside, rw (c .before .before .before .before .read-rest .ensures .same-length) inside)
 
-loop-less : tie.Need-loop-less Inv-loop μ-loop
-loop-less c = search needs
+read-tree-requires : tie.Need-read-tree-requires
+read-tree-requires c κs =
+    let rest = c .before .before .before .before .read-rest .ensures in
+    whole-ready _ (rw (c .before .before .before .before .before .before .before .height .ensures) (c .before .before .before .before .before .before .before .before .before .before .before .pre .1)) (rest .same-length) (omega arith)
 
-loop-again : tie.Need-loop-again Inv-loop μ-loop
-loop-again c = (omega arith, copied-next (c .before .before .loop .inv .1) (omega arith) (omega arith))
-
-same-length : tie.Need-same-length Inv-loop μ-loop
+same-length : tie.Need-same-length
 same-length c = search needs
 
-returns : tie.Need-returns Inv-loop μ-loop
-returns c = copied-all (c .before .loop .inv .1) (omega arith) (omega arith) ∙ sym (number-same _ _)
+returns : tie.Need-returns
+returns c =
+    rw (← c .before .before .before .before .before .before .before .before .before .before .height .ensures)
+    (table-read _ (c .before .before .before .before .before .before .before .before .before .power .ensures) (c .before .before .before .before .before .before .before .read-rest .ensures) (c .before .before .before .before .if1 .taken) (c .before .before .read-table .ensures))
+
+same-length-2 : tie.Need-same-length-2
+same-length-2 c = search needs
+
+returns-2 : tie.Need-returns-2
+returns-2 c =
+    rw (← c .before .before .before .before .before .before .before .before .before .before .height .ensures)
+    (numbers-read _ (c .before .before .before .before .before .before .before .before .before .power .ensures) (c .before .before .before .before .before .before .before .read-rest .ensures) (c .before .before .read-tree .ensures))
 
 pub read-counts-spec : {M : Type 1} → statement M
 read-counts-spec =
     tie.close
     (tie.spec
-    Inv-loop
-    μ-loop
-    loop-holds
-    mul-count
-    shared-slice-read-count
-    cast-work
-    mul-work
-    slice-write-work
-    add-i
-    loop-less
-    loop-again
+    shared-slice-read-m
+    cast-m
+    height-requires
+    add-levels
+    power-requires
+    read-rest-requires
+    read-table-requires
+    read-tree-requires
     same-length
-    returns)
+    returns
+    same-length-2
+    returns-2)

@@ -1,72 +1,85 @@
--- `write_counts` meets its contract. The loop's invariant: the first i counts are copied.
-use mathlib.Core.Path.{sym, _∙_}
-use Prim.Native.Nat.{_-_, _^_, _≤_, _<_}
+-- `write_counts` meets its contract.
+use mathlib.Core.Path.{sym}
+use Prim.Native.Nat.{_+_, _^_, _≤_, _<_}
 use native.Mathlib.Omega.{arith}
 use borrow.Author.Needs.{needs}
 use denote.Ref.{now}
-use lib.ListN.{length}
-use Rattle.base.specs.ListLaws.{every-getD}
-use Rattle.store_slices.specs.Pasted.{Pasted}
-use Rattle.store_slices.specs.PastedLaws.{copied-next, copied-all}
-use Rattle.store_counts.specs.SameOrder.{count-same}
+use lib.ListN.{length, getD}
+use lib.Pow.{pow-pos}
+use Rattle.tree_sizes.specs.Sizes.{height}
+use Rattle.store_counts.specs.WholeLaws.{double, levels-below, whole-ready, places-written, table-written}
 use Rattle.store_counts.proofs.write_counts.Statement.{statement}
 use Rattle.store_counts.proofs.write_counts.Tie as tie
 
-abbrev Inv-loop : tie.InvT-loop
-Inv-loop work counts₀ i₀ counts i = (i ≤ length work) × Pasted counts₀ 0 work i counts
+shared-slice-read-m : tie.Need-shared-slice-read-m
+shared-slice-read-m c = omega (arith, c .before .before .before .pre .1 .1, pow-pos (height (getD (now (c .before .before .before .args .work)) 0 0)))
 
-abbrev μ-loop : tie.MeasureT-loop
-μ-loop work counts₀ i₀ counts i = length work - i
+cast-m : tie.Need-cast-m
+cast-m c = omega (arith, c .shared-slice-known2 .given 0)
 
-loop-holds : tie.Need-loop-holds Inv-loop μ-loop
-loop-holds c = search needs
+height-requires : tie.Need-height-requires
+height-requires c κs = search needs
 
-mul-count : tie.Need-mul-count Inv-loop μ-loop
-mul-count c = search needs
+-- The tree is inside the slice, and so its levels are few.
+room : (c : tie.After-height) → 2 ^ (c .height .result + 1) ≤ length (now (c .before .before .before .before .args .work))
+room c = rw (c .height .ensures, double (height (getD (now (c .before .before .before .before .args .work)) 0 0))) (c .before .before .before .before .pre .1 .1)
 
-shared-slice-read-count : tie.Need-shared-slice-read-count Inv-loop μ-loop
-shared-slice-read-count c = search needs
+below : (c : tie.After-height) → c .height .result + 1 < 64
+below c = rw (c .height .ensures) (levels-below _ (c .before .before .before .before .pre .1 .1) (omega arith))
 
-cast-counts : tie.Need-cast-counts Inv-loop μ-loop
-cast-counts c =
-    let a = c .before .before .before in
-    omega (arith, every-getD (λ x. x < 2 ^ 16) (now (a .args .work)) (c .before .before .loop .i) 0 (a .pre .1 .0) (omega arith))
+add-levels : tie.Need-add-levels
+add-levels c = omega (arith, below c)
 
-mul-counts : tie.Need-mul-counts Inv-loop μ-loop
-mul-counts c = search needs
+power-requires : tie.Need-power-requires
+power-requires c κs = below (c .before)
 
-slice-write-counts : tie.Need-slice-write-counts Inv-loop μ-loop
-slice-write-counts c = search needs
+write-rest-requires : tie.Need-write-rest-requires
+write-rest-requires c κs =
+    let s = c .before .before .before .before .before .before in (
+      s .pre .0,
+      ((rw (c .power .ensures) (pow-pos _), rw (c .power .ensures) (room (c .before .before))), s .pre .1 .0),
+    )
 
-add-i : tie.Need-add-i Inv-loop μ-loop
-add-i c = search needs
+write-table-requires : tie.Need-write-table-requires
+write-table-requires c κs =
+    let inside = rw (c .before .if1 .taken) at (room (c .before .before .before .before .before .before .before)) in
+    (rw (c .before .before .before .before .write-rest .ensures .same-length) inside, (inside, c .before .before .before .before .before .before .before .before .before .before .before .pre .1 .0))
 
-loop-less : tie.Need-loop-less Inv-loop μ-loop
-loop-less c = search needs
+write-tree-requires : tie.Need-write-tree-requires
+write-tree-requires c κs =
+    let s = c .before .before .before .before .before .before .before .before .before .before .before in
+    let rest = c .before .before .before .before .write-rest .ensures in
+    (whole-ready _ (rw (c .before .before .before .before .before .before .before .height .ensures, rest .same-length) (s .pre .1 .1)) (sym (rest .same-length)) (omega (arith, rest .same-length)), s .pre .1 .0)
 
-loop-again : tie.Need-loop-again Inv-loop μ-loop
-loop-again c = (omega arith, copied-next (c .before .before .loop .inv .1) (omega arith) (omega arith))
-
-same-length : tie.Need-same-length Inv-loop μ-loop
+same-length : tie.Need-same-length
 same-length c = search needs
 
-returns : tie.Need-returns Inv-loop μ-loop
-returns c = copied-all (c .before .loop .inv .1) (omega arith) (omega arith) ∙ sym (count-same _ _)
+returns : tie.Need-returns
+returns c =
+    rw (← c .before .before .before .before .before .before .before .before .before .before .height .ensures)
+    (table-written _ (c .before .before .before .before .before .before .before .before .power .ensures) (c .before .before .before .before .before .before .before .write-rest .ensures) (c .before .before .before .before .if1 .taken) (c .before .before .write-table .ensures))
+
+same-length-2 : tie.Need-same-length-2
+same-length-2 c = search needs
+
+returns-2 : tie.Need-returns-2
+returns-2 c =
+    rw (← c .before .before .before .before .before .before .before .before .before .before .height .ensures)
+    (places-written _ (c .before .before .before .before .before .before .before .before .power .ensures) (c .before .before .before .before .before .before .before .write-rest .ensures) (c .before .before .write-tree .ensures))
 
 pub write-counts-spec : {M : Type 1} → statement M
 write-counts-spec =
     tie.close
     (tie.spec
-    Inv-loop
-    μ-loop
-    loop-holds
-    mul-count
-    shared-slice-read-count
-    cast-counts
-    mul-counts
-    slice-write-counts
-    add-i
-    loop-less
-    loop-again
+    shared-slice-read-m
+    cast-m
+    height-requires
+    add-levels
+    power-requires
+    write-rest-requires
+    write-table-requires
+    write-tree-requires
     same-length
-    returns)
+    returns
+    same-length-2
+    returns-2)

@@ -7,6 +7,7 @@ use reference::coins::{Source, Undecided};
 use reference::layout::{COUNTS, SLOTS};
 use reference::random::SplitMix64;
 use reference::shares::Store;
+use std::cmp::Ordering;
 use std::collections::BTreeMap;
 
 pub fn height(m: usize) -> usize {
@@ -43,22 +44,77 @@ pub fn leaf_slot(k: usize, n: usize, s: usize) -> usize {
     (2 * k + 1) * s / (2 * n)
 }
 
+/// The place, from 1, of a range in Van Emde Boas order (02, F-5), by the formula
+/// of Brodal, Fagerberg and Jacob: the rule cuts one tree directly above the
+/// depth of the range; its root comes first, then the rest of its upper part,
+/// then its lower parts, among them that of the range, which begins with it.
+pub fn place(range: usize, levels: usize) -> usize {
+    let depth = (usize::BITS - 1 - range.leading_zeros()) as usize;
+    if depth == 0 {
+        return 1;
+    }
+    let (start, end) = cut_above(depth, levels);
+    let root = range >> (depth - start);
+    let (upper, lower) = ((1 << (depth - start)) - 1, (1 << (end - depth)) - 1);
+    place(root, levels) + upper + (range & upper) * lower
+}
+
+/// The depths of the tree that the rule cuts directly above this depth: the
+/// first, and the one after the last.
+fn cut_above(depth: usize, levels: usize) -> (usize, usize) {
+    let (mut start, mut end) = (0, levels);
+    loop {
+        let cut = start + (end - start) / 2;
+        match depth.cmp(&cut) {
+            Ordering::Less => end = cut,
+            Ordering::Equal => return (start, end),
+            Ordering::Greater => start = cut,
+        }
+    }
+}
+
+/// The order of the counts of a store.
+#[derive(Clone, Copy, Debug, PartialEq, Eq)]
+pub enum Order {
+    /// Range k has count k, as before 02, F-5.
+    Number,
+    /// Van Emde Boas order.
+    Tree,
+}
+
+impl Order {
+    /// Where the count of a range stands in a store of size M.
+    pub fn place(self, range: usize, m: usize) -> usize {
+        match self {
+            Order::Number => range,
+            Order::Tree => place(range, height(m) + 1),
+        }
+    }
+}
+
 /// Lays out a list by size and balance entries. `balance` is given the range,
 /// its length and its number of candidates, and tells which candidate, from 0,
 /// is the balance entry.
-pub fn lay_out(
+pub fn lay_out(list: &[u64], m: usize, balance: impl FnMut(usize, usize, usize) -> usize) -> Store {
+    lay_out_in(Order::Tree, list, m, balance)
+}
+
+/// The same with the counts in this order.
+pub fn lay_out_in(
+    order: Order,
     list: &[u64],
     m: usize,
     mut balance: impl FnMut(usize, usize, usize) -> usize,
 ) -> Store {
     let mut store = Store::cleared();
     store.counts[0] = m as u16;
-    lay_out_range(&mut store, m, 1, 0, list, &mut balance);
+    lay_out_range(&mut store, order, m, 1, 0, list, &mut balance);
     store
 }
 
 fn lay_out_range(
     store: &mut Store,
+    order: Order,
     m: usize,
     range: usize,
     depth: usize,
@@ -66,7 +122,7 @@ fn lay_out_range(
     balance: &mut impl FnMut(usize, usize, usize) -> usize,
 ) {
     let n = list.len();
-    store.counts[range] = n as u16;
+    store.counts[order.place(range, m)] = n as u16;
     if depth == height(m) {
         let slots = leaf_slots(m);
         assert!(n <= slots, "leaf {range} of M {m} holds {n}");
@@ -80,8 +136,8 @@ fn lay_out_range(
     let chosen = balance(range, n, c);
     assert!(chosen < c);
     let (left, right) = list.split_at(first_candidate(n, c) - 1 + chosen);
-    lay_out_range(store, m, 2 * range, depth + 1, left, balance);
-    lay_out_range(store, m, 2 * range + 1, depth + 1, right, balance);
+    lay_out_range(store, order, m, 2 * range, depth + 1, left, balance);
+    lay_out_range(store, order, m, 2 * range + 1, depth + 1, right, balance);
 }
 
 /// Whether some list, size and balance entries lay out exactly this store.
@@ -99,7 +155,7 @@ pub fn is_laid_out(store: &Store) -> bool {
     }
     let mut all_are_candidates = true;
     let laid_out = lay_out(&list, m, |range, n, c| {
-        let left = usize::from(store.counts[2 * range]);
+        let left = usize::from(store.counts[Order::Tree.place(2 * range, m)]);
         let chosen = (left + 1).wrapping_sub(first_candidate(n, c));
         all_are_candidates &= chosen < c;
         chosen.min(c - 1)
@@ -267,14 +323,19 @@ impl Model {
 
     /// The store of this sheet.
     pub fn store(&self) -> Store {
+        self.store_in(Order::Tree)
+    }
+
+    /// The store of this sheet with its counts in this order.
+    pub fn store_in(&self, order: Order) -> Store {
         let mut store = Store::cleared();
         store.counts[0] = self.m as u16;
-        self.write(&mut store, 1, 0, &self.list);
+        self.write(&mut store, order, 1, 0, &self.list);
         store
     }
 
-    fn write(&self, store: &mut Store, range: usize, depth: usize, list: &[Named]) {
-        store.counts[range] = list.len() as u16;
+    fn write(&self, store: &mut Store, order: Order, range: usize, depth: usize, list: &[Named]) {
+        store.counts[order.place(range, self.m)] = list.len() as u16;
         if depth == height(self.m) {
             let slots = leaf_slots(self.m);
             let start = (range - (1 << depth)) * slots;
@@ -284,8 +345,8 @@ impl Model {
             return;
         }
         let (left, right) = list.split_at(position(list, self.balance[&range]));
-        self.write(store, 2 * range, depth + 1, left);
-        self.write(store, 2 * range + 1, depth + 1, right);
+        self.write(store, order, 2 * range, depth + 1, left);
+        self.write(store, order, 2 * range + 1, depth + 1, right);
     }
 }
 
@@ -350,6 +411,11 @@ pub fn m(store: &Store) -> usize {
 
 pub fn n(store: &Store) -> usize {
     store.counts[1].into()
+}
+
+/// The count of a range.
+pub fn count(store: &Store, range: usize) -> usize {
+    store.counts[Order::Tree.place(range, m(store))].into()
 }
 
 /// The whole list, through read.

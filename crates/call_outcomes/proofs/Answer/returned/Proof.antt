@@ -29,6 +29,9 @@ enum-known-self-4 c = search needs
 enum-known-self-5 : tie.Need-enum-known-self-5
 enum-known-self-5 c = search needs
 
+enum-known-self-6 : tie.Need-enum-known-self-6
+enum-known-self-6 c = search needs
+
 number-requires : tie.Need-number-requires
 number-requires c κs = search needs
 
@@ -48,7 +51,10 @@ returns-5 : tie.Need-returns-5
 returns-5 c = ap returned (sym (c .before .self4 .given .1))
 
 returns-6 : tie.Need-returns-6
-returns-6 c = ap refusal (c .number .ensures) ∙ ap returned (sym (c .before .before .self5 .given .1))
+returns-6 c = ap returned (sym (c .before .self5 .given .1))
+
+returns-7 : tie.Need-returns-7
+returns-7 c = ap refusal (c .number .ensures) ∙ ap returned (sym (c .before .before .self6 .given .1))
 
 pub returned-spec : {M : Type 1} → statement M
 returned-spec =
@@ -60,10 +66,12 @@ returned-spec =
     enum-known-self-3
     enum-known-self-4
     enum-known-self-5
+    enum-known-self-6
     number-requires
     returns
     returns-2
     returns-3
     returns-4
     returns-5
-    returns-6)
+    returns-6
+    returns-7)

@@ -1,32 +1,123 @@
 -- Laws of the order of the counts. Only `count-order` looks at the order: the rest follows from `Permutes`.
 use mathlib.Core.Path.{_≡_, refl, sym, ap, _∙_}
-use mathlib.Core.List.{List}
+use mathlib.Core.List.{List, _∷_}
 use mathlib.Core.Logic.{⊎-elim}
-use Prim.Native.Nat.{ℕ, zero, suc, _+_, _*_, _^_, _≤_, _<_}
+use Prim.Native.Nat.{ℕ, zero, suc, _+_, _-_, _*_, _^_, _≤_, _<_}
 use lib.ListN.{length, getD, List·getD-eq-default}
+use lib.Pow.{pow-pos}
 use lib.Seq.{ext-getD}
-use native.Mathlib.Nat.{add-zero, add-suc, suc-add, zero-add, not-suc-le-zero}
+use native.Mathlib.Nat.{add-zero, add-suc, suc-add, zero-add, not-suc-le-zero, pow-suc}
 use native.Mathlib.Omega.{arith}
 use Rattle.base.specs.Lists.{Every}
-use Rattle.base.specs.CaseLaws.{lt-or-ge}
+use Rattle.base.specs.CaseLaws.{lt-or-ge, ifLt-yes, ifLt-no}
 use Rattle.base.specs.ListLaws.{every-at}
-use Rattle.store_layout.specs.CountOrder.{countPlace, rangeAt, Permutes, pick, reorder, countOrder, numberOrder}
+use Rattle.store_order.specs.Occurs.{occurs, indexOf}
+use Rattle.store_order.specs.OccursLaws.{occurs-at, at-index, index-at}
+use Rattle.store_order.specs.Copied.{up}
+use Rattle.store_order.specs.CopiedLaws.{up-once, up-above}
+use Rattle.store_order.specs.TreeOrder.{treeOrder}
+use Rattle.store_order.specs.TreeOrderLaws.{length-order, order-first, order-permutes}
+use Rattle.store_order.specs.CountOrder.{stored, countPlace, rangeAt, Permutes, pick, reorder, countOrder, numberOrder}
 
 -- ---- the order
 
-pub count-order : (h : ℕ) → Permutes h (countPlace h) (rangeAt h)
-unfolding countPlace rangeAt
-count-order h = record {
-  range-place = λ k. refl;
-  place-range = λ i. refl;
-  size-stays = refl;
-  root-stays = refl;
-  ranges-stay = λ k low high. (low, high);
-  unused-stay = λ k high. refl;
-}
+module _ (h : ℕ) where
+  pub length-stored : length (stored h) ≡ 2 * 2 ^ h
+  unfolding stored
+  length-stored = omega (arith, length-order (suc h) (omega arith) 1, pow-suc 2 h)
+
+  -- Each number of the tree stands in it once, and no other.
+  stored-as-up : (k : ℕ) → occurs k (stored h) ≡ occurs k (up 0 (2 * 2 ^ h))
+  unfolding stored occurs up
+  stored-as-up k =
+      let room : 2 * 2 ^ h ≡ suc (2 ^ suc h - 1) = omega (arith, pow-suc 2 h, pow-pos h) in
+      let whole : occurs k (0 ∷ treeOrder (suc h) 1) ≡ occurs k (up 0 (suc (2 ^ suc h - 1))) = rw (order-permutes k (suc h) (omega arith)) in
+      rw room whole
+
+  stored-once : (k : ℕ) → k < 2 * 2 ^ h → occurs k (stored h) ≡ 1
+  stored-once k l = stored-as-up k ∙ up-once k 0 (2 * 2 ^ h) (omega arith) (omega arith)
+
+  stored-range : (i : ℕ) → i < 2 * 2 ^ h → getD (stored h) i 0 < 2 * 2 ^ h
+  stored-range i l =
+      ⊎-elim (λ (m : getD (stored h) i 0 < 2 * 2 ^ h). m)
+      (λ (far : 2 * 2 ^ h ≤ getD (stored h) i 0).
+      absurd (omega (
+        arith,
+        occurs-at (stored h) i 0 (rw length-stored l),
+        stored-as-up (getD (stored h) i 0),
+        up-above (getD (stored h) i 0) 0 (2 * 2 ^ h) (omega arith),
+      )))
+      (lt-or-ge (getD (stored h) i 0) (2 * 2 ^ h))
+
+  pub place-inside : (k : ℕ) → k < 2 * 2 ^ h → countPlace h k ≡ indexOf k (stored h)
+  unfolding countPlace
+  place-inside k l = ifLt-yes k (2 * 2 ^ h) _ _ l
+
+  pub range-inside : (i : ℕ) → i < 2 * 2 ^ h → rangeAt h i ≡ getD (stored h) i 0
+  unfolding rangeAt
+  range-inside i l = ifLt-yes i (2 * 2 ^ h) _ _ l
+
+  place-outside : (k : ℕ) → 2 * 2 ^ h ≤ k → countPlace h k ≡ k
+  unfolding countPlace
+  place-outside k g = ifLt-no k (2 * 2 ^ h) _ _ g
+
+  range-outside : (i : ℕ) → 2 * 2 ^ h ≤ i → rangeAt h i ≡ i
+  unfolding rangeAt
+  range-outside i g = ifLt-no i (2 * 2 ^ h) _ _ g
+
+  pub place-low : (k : ℕ) → k < 2 * 2 ^ h → countPlace h k < 2 * 2 ^ h
+  place-low k l = rw (place-inside k l, ← length-stored) (at-index k 0 (stored h) (omega (arith, stored-once k l)) .0)
+
+  back-range : (k : ℕ) → rangeAt h (countPlace h k) ≡ k
+  back-range k =
+      ⊎-elim
+      (λ (l : k < 2 * 2 ^ h).
+      range-inside (countPlace h k) (place-low k l) ∙ rw (place-inside k l) (at-index k 0 (stored h) (omega (arith, stored-once k l)) .1))
+      (λ (g : 2 * 2 ^ h ≤ k). rw (place-outside k g) (range-outside k g))
+      (lt-or-ge k (2 * 2 ^ h))
+
+  back-place : (i : ℕ) → countPlace h (rangeAt h i) ≡ i
+  back-place i =
+      ⊎-elim
+      (λ (l : i < 2 * 2 ^ h).
+      rw (range-inside i l)
+      (place-inside (getD (stored h) i 0) (stored-range i l)
+      ∙ index-at (stored h) i 0 (rw length-stored l) (stored-once (getD (stored h) i 0) (stored-range i l))))
+      (λ (g : 2 * 2 ^ h ≤ i). rw (range-outside i g) (place-outside i g))
+      (lt-or-ge i (2 * 2 ^ h))
+
+  stored-size : getD (stored h) 0 0 ≡ 0
+  unfolding stored
+  stored-size = refl
+
+  stored-root : getD (stored h) 1 0 ≡ 1
+  unfolding stored
+  stored-root = order-first (suc h) (omega arith) 1 0
+
+  -- What stands at its own place in the order of the tree stays.
+  place-stays : (k : ℕ) → k < 2 * 2 ^ h → getD (stored h) k 0 ≡ k → countPlace h k ≡ k
+  place-stays k l e = ap (countPlace h) (sym (range-inside k l ∙ e)) ∙ back-place k
+
+  pub count-order : Permutes h (countPlace h) (rangeAt h)
+  count-order = record {
+    range-place = back-range;
+    place-range = back-place;
+    size-stays = place-stays 0 (omega (arith, pow-pos h)) stored-size;
+    root-stays = place-stays 1 (omega (arith, pow-pos h)) stored-root;
+    ranges-stay = λ k low high. (above k low, place-low k high);
+    unused-stay = place-outside;
+  }
+    where
+      above : (k : ℕ) → 0 < k → 0 < countPlace h k
+      above k low =
+          ⊎-elim (λ (l : 0 < countPlace h k). l)
+          (λ (none : countPlace h k ≤ 0).
+          let zero-is : countPlace h k ≡ 0 = omega arith in
+          absurd (omega (arith, sym (back-range k) ∙ ap (rangeAt h) zero-is ∙ range-inside 0 (omega (arith, pow-pos h)) ∙ stored-size)))
+          (lt-or-ge 0 (countPlace h k))
 
 -- What holds of the places holds of the ranges.
-permutes-back : (h : ℕ) (place range : ℕ → ℕ) → Permutes h place range → Permutes h range place
+pub permutes-back : (h : ℕ) (place range : ℕ → ℕ) → Permutes h place range → Permutes h range place
 permutes-back h place range p = record {
   range-place = p .place-range;
   place-range = p .range-place;
@@ -50,7 +141,7 @@ permutes-back h place range p = record {
         (λ (far : 2 * 2 ^ h ≤ range i). absurd (omega (arith, p .place-range i, p .unused-stay (range i) far)))
         (lt-or-ge (range i) (2 * 2 ^ h))
 
-range-order : (h : ℕ) → Permutes h (rangeAt h) (countPlace h)
+pub range-order : (h : ℕ) → Permutes h (rangeAt h) (countPlace h)
 range-order h = permutes-back h (countPlace h) (rangeAt h) (count-order h)
 
 -- ---- a list in another order

@@ -3,14 +3,21 @@ use mathlib.Core.Path.{_≡_}
 use mathlib.Core.List.{List, [], _∷_}
 use Prim.Native.Nat.{ℕ, zero, suc, _*_, _^_, _≤_, _<_}
 use lib.ListN.{length, getD}
+use Rattle.base.specs.Cases.{ifLt}
+use Rattle.store_order.specs.Occurs.{indexOf}
+use Rattle.store_order.specs.TreeOrder.{treeOrder}
 
--- The place of the count of range k, in a tree whose leaves stand h levels below its root: the order is that of the range numbers.
+-- The ranges of a tree whose leaves stand h levels below its root, by their places: number 0, which is the size parameter, stays first.
+unfoldable pub stored : ℕ → List ℕ
+stored h = 0 ∷ treeOrder (suc h) 1
+
+-- The place of the count of range k. Numbers behind those of the ranges stay.
 unfoldable pub countPlace : ℕ → ℕ → ℕ
-countPlace h k = k
+countPlace h k = ifLt k (2 * 2 ^ h) (indexOf k (stored h)) k
 
 -- The range whose count stands at place i.
 unfoldable pub rangeAt : ℕ → ℕ → ℕ
-rangeAt h i = i
+rangeAt h i = ifLt i (2 * 2 ^ h) (getD (stored h) i 0) i
 
 -- What the rest relies on of an order: places and ranges are inverse to each other; number 0, which is the size parameter, and the root
 -- keep their places, the other ranges of the tree stand among themselves, and no number behind them moves.

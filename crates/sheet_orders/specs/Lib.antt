@@ -1,0 +1,2 @@
+-- What the conversions of the clubs' counts use.
+pub mod ConvertLaws
