@@ -1,14 +1,12 @@
 -- The conversions take any contents with an M that a sheet can have, and are each other's inverse.
-use mathlib.Core.Bool.{true, false, not}
 use mathlib.Core.List.{List}
 use mathlib.Core.Option.{Option, some, none}
-use mathlib.Core.Path.{_≡_, refl, ap, _∙_}
+use mathlib.Core.Path.{_≡_, refl, _∙_}
 use mathlib.Core.Logic.{_≢_}
 use Prim.Native.Nat.{ℕ, _-_, _*_, _^_, _≤_, _<_}
 use lib.ListN.{length, getD}
 use borrow.Author.Tests.{eq-eqb, ne-eqb, le-ltb, lt-ltb}
 use Rattle.tree_sizes.specs.Sizes.{height}
-use Rattle.store_order.specs.CountOrder.{countOrder, numberOrder}
 use Rattle.store_order.specs.CountOrderLaws.{length-countOrder, length-numberOrder, countOrder-size, numberOrder-size, number-count, count-number}
 use Rattle.store_layout.specs.declared.Capacity.{Capacity}
 use Rattle.store_layout.specs.Room.{Roomy}

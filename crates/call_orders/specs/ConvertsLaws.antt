@@ -1,12 +1,11 @@
 -- Each call on a converted store comes to the converted outcome of the call on the store.
 use mathlib.Core.Bool.{Bool, true, false}
 use mathlib.Core.List.{List, []}
-use mathlib.Core.Option.{none}
-use mathlib.Core.Path.{_≡_, refl, sym, ap, _∙_}
+use mathlib.Core.Path.{_≡_, refl, sym, ap}
 use Prim.Native.Nat.{ℕ}
 use native.Mathlib.Omega.{arith}
 use lib.ListN.{length}
-use Rattle.draw_shares.specs.Program.{Program, done}
+use Rattle.draw_shares.specs.Program.{done}
 use Rattle.draw_shares.specs.Tape.{Ran, ran, ended, runAt, afterRun}
 use Rattle.draw_shares.specs.TapeLaws.{run-bind, run-ends}
 use Rattle.base.specs.Cases.{ifLe}
@@ -17,8 +16,8 @@ use Rattle.tree_rules.specs.Rules.{InReach, update}
 use Rattle.tree_rules.specs.ShapeLaws.{update-ends}
 use Rattle.tree_rules.specs.ChangeListLaws.{length-changed}
 use Rattle.store_layout.specs.Decode.{Contents}
-use Rattle.call_outcomes.specs.Kind.{View, Calls, LawfulCalls, empty, Edit, applied, clear, change, ask, Kind, CallFor, CallOf}
-use Rattle.call_outcomes.specs.Causes.{Decision, refuse, accept, byLengths, byFound, storeDecision, lookedAt, argumentCause, byArguments, decision}
+use Rattle.call_outcomes.specs.Kind.{View, Calls, LawfulCalls, empty, Edit, applied, clear, change, ask, Kind, CallFor}
+use Rattle.call_outcomes.specs.Causes.{Decision, refuse, accept, byLengths, byFound, storeDecision, lookedAt, argumentCause, decision}
 use Rattle.call_outcomes.specs.Outcome.{edited, effect, answerOf, entriesOf, refused, finished, outcomeBy, outcome}
 use Rattle.call_outcomes.specs.DecisionLaws.{accepted, store-accepted}
 use Rattle.call_orders.specs.Converts.{Converts, converted}

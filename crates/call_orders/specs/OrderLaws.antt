@@ -1,17 +1,16 @@
 -- The conversion leads from the sheets in the order of the range numbers to those in the tree order, and every call on a converted store comes
 -- to the converted outcome.
-use mathlib.Core.Bool.{Bool, true, false, _&&_}
+use mathlib.Core.Bool.{true, false}
 use mathlib.Core.List.{List}
 use mathlib.Core.Logic.{⊎-elim}
-use mathlib.Core.Option.{Option, some, none}
-use mathlib.Core.Path.{_≡_, refl, sym, ap, ap₂, _∙_}
+use mathlib.Core.Option.{some, none}
+use mathlib.Core.Path.{_≡_, sym, ap, _∙_}
 use Prim.Native.Nat.{ℕ, _-_, _*_, _^_, _≤_, _<_}
 use native.Mathlib.Omega.{arith}
-use lib.Dec.{eqb}
 use lib.ListN.{length, getD}
 use Rattle.base.specs.Lists.{equalLists}
 use Rattle.base.specs.BoolLaws.{tests-agree, true-or-false}
-use Rattle.base.specs.CaseLaws.{lt-or-ge, le-or-gt}
+use Rattle.base.specs.CaseLaws.{le-or-gt}
 use Rattle.base.specs.ListLaws.{equal-itself, equal-sound}
 use Rattle.tree_sizes.specs.Sizes.{height}
 use Rattle.tree_rules.specs.Tree.{Shape, IsShape}
@@ -22,12 +21,12 @@ use Rattle.store_order.specs.CountOrderLaws.{length-countOrder, number-count}
 use Rattle.store_layout.specs.declared.Capacity.{Capacity}
 use Rattle.store_layout.specs.Room.{Roomy}
 use Rattle.store_layout.specs.RoomLaws.{counts-enough}
-use Rattle.store_layout.specs.Layout.{Store, laySlots, layCounts, layOut}
-use Rattle.store_layout.specs.Decode.{numbered, listOf, shapeOf, laidTest, sheetTest, Contents, decode}
+use Rattle.store_layout.specs.Layout.{Store, layCounts, layOut}
+use Rattle.store_layout.specs.Decode.{listOf, shapeOf, laidTest, sheetTest, Contents, decode}
 use Rattle.store_layout.specs.LeafLaws.{nonzero-positive}
 use Rattle.store_layout.specs.NumberedLaws.{numbered-size, numbered-given}
 use Rattle.store_layout.specs.SheetLaws.{laid-sound, decode-true, decode-false, size-refused, size-layOut, numbered-layOut}
-use Rattle.call_outcomes.specs.Kind.{holds, wrong}
+use Rattle.call_outcomes.specs.Kind.{holds}
 use Rattle.call_outcomes.specs.Outcome.{outcome}
 use Rattle.call_outcomes.specs.Plain.{IsList, RightLengths, rightLengths, foundBy, plainView, plainCalls, plain, Call}
 use Rattle.call_outcomes.specs.PlainLaws.{right-lengths, contents-of, plain-lawful}

@@ -7,7 +7,6 @@ use native.Mathlib.Omega.{arith}
 use native.Mathlib.Numerals.{add-one}
 use native.Mathlib.Nat.{mul-le-mul-right}
 use lib.ListN.{length, getD, take, drop, length-take}
-use lib.Pow.{pow-pos}
 use Rattle.base.specs.CaseLaws.{ifEq-yes, ifEq-no}
 use Rattle.tree_sizes.specs.Sizes as sizes
 use Rattle.tree_sizes.specs.Sizes.{height, leafSlots}
@@ -94,9 +93,6 @@ pub record LeafNumbers (store : Store) (s leaves : ℕ) : Type 0 where
   pub output-fits : leaves * (11 + 16 * s) ≤ leavesMost store
 
 module _ (store : Store) (sheet : PrintReady store) where
-  pub size-there : 0 < length (store .counts)
-  size-there = omega (arith, sheet .counts-fit, pow-pos (height (getD (store .counts) 0 0)))
-
   pub height-fits : height (getD (store .counts) 0 0) < 64
   height-fits = omega (arith, height-most (getD (store .counts) 0 0) 16 (omega arith) (omega (arith, sheet .size)))
 

@@ -1,6 +1,6 @@
 -- What the conversions of the clubs' counts leave.
 use mathlib.Core.List.{List}
-use mathlib.Core.Path.{_≡_, sym, _∙_}
+use mathlib.Core.Path.{_≡_, sym}
 use Prim.Native.Nat.{ℕ}
 use lib.ListN.{getD}
 use Rattle.tree_sizes.specs.Sizes.{height}

@@ -1,13 +1,13 @@
 -- The counts of a whole store read and written: what is no range's, then the tree, by the order of its ranges or by the table.
-use mathlib.Core.Path.{_≡_, ap, _∙_}
+use mathlib.Core.Path.{_≡_, _∙_}
 use mathlib.Core.List.{List}
 use mathlib.Core.Logic.{⊎-elim}
-use Prim.Native.Nat.{ℕ, suc, _+_, _*_, _^_, _≤_, _<_}
+use Prim.Native.Nat.{ℕ, _+_, _*_, _^_, _≤_, _<_}
 use native.Mathlib.Nat.{pow-suc}
 use native.Mathlib.Numerals.{add-one}
 use native.Mathlib.Omega.{arith}
 use lib.ListN.{length, getD}
-use lib.Pow.{pow-pos, pow-mono}
+use lib.Pow.{pow-mono}
 use Rattle.base.specs.CaseLaws.{lt-or-ge}
 use Rattle.store_order.specs.TreeOrder.{treeOrder}
 use Rattle.store_order.specs.Copied.{putTo, putFrom, RestCopied}

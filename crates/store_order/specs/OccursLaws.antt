@@ -6,7 +6,6 @@ use Prim.Native.Nat.{ℕ, zero, suc, _+_, _≤_, _<_}
 use native.Mathlib.Nat.{not-suc-le-zero, le-of-suc-le-suc}
 use native.Mathlib.Omega.{arith}
 use lib.ListN.{length, getD}
-use Rattle.base.specs.Cases.{ifEq}
 use Rattle.base.specs.CaseLaws.{eq-or-ne, lt-or-ge, ifEq-yes, ifEq-no}
 use Rattle.store_order.specs.Occurs.{occurs, indexOf}
 

@@ -8,7 +8,6 @@ use native.Mathlib.Numerals.{add-one}
 use native.Mathlib.Omega.{arith}
 use lib.ListN.{length, getD, length-append, List·getD-append}
 use lib.Pow.{pow-add, pow-pos, pow-lt}
-use Rattle.base.specs.Cases.{ifLe}
 use Rattle.base.specs.CaseLaws.{le-or-gt, ifLe-yes, ifLe-no}
 use Rattle.store_order.specs.Occurs.{occurs}
 use Rattle.store_order.specs.OccursLaws.{occurs-append}

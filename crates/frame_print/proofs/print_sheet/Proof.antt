@@ -6,7 +6,7 @@ use Rattle.call_outcomes.specs.Plain.{storeOf}
 use Rattle.frame_replies.specs.WroteLaws.{wrote-room}
 use Rattle.frame_replies.specs.DigitLaws.{length-sheet}
 use Rattle.frame_print.specs.Printed.{leavesMost}
-use Rattle.frame_print.specs.PrintLaws.{LeafNumbers, size-there, height-fits, leaf-numbers, sheet-empty, sheet-leaves}
+use Rattle.frame_print.specs.PrintLaws.{LeafNumbers, height-fits, leaf-numbers, sheet-empty, sheet-leaves}
 use Rattle.frame_print.proofs.print_sheet.Statement.{statement}
 use Rattle.frame_print.proofs.print_sheet.Tie as tie
 
