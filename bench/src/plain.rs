@@ -1,6 +1,6 @@
 //! The same calls once more in safe Rust, written for speed: no table worked out
 //! for each call, no comparison of candidates one by one. `tests/reference` is
-//! written to be read beside the paper; a ratio to it alone would say little.
+//! written to be read beside the paper; a ratio to it would say little.
 
 use crate::tree_order::{places, Places};
 use reference::layout::{COUNTS, SLOTS};

@@ -1,50 +1,10 @@
-//! The three implementations behind one trait, and the store that each works on.
+//! The implementations behind one trait, and the store that each works on.
 
 use crate::plain;
 use reference::calls::{self, Answer};
 use reference::layout::{COUNTS, SLOTS};
 
-extern "C" {
-    fn sheet_insert(
-        slots: *mut u64,
-        slots_len: usize,
-        counts: *mut u16,
-        counts_len: usize,
-        rank: usize,
-        entry: u64,
-        tape: *const u32,
-        tape_len: usize,
-        answer: *mut u64,
-        answer_len: usize,
-    ) -> usize;
-    fn sheet_delete(
-        slots: *mut u64,
-        slots_len: usize,
-        counts: *mut u16,
-        counts_len: usize,
-        rank: usize,
-        tape: *const u32,
-        tape_len: usize,
-        answer: *mut u64,
-        answer_len: usize,
-    ) -> usize;
-    fn sheet_read(
-        slots: *const u64,
-        slots_len: usize,
-        counts: *const u16,
-        counts_len: usize,
-        first: usize,
-        last: usize,
-        output: *mut u64,
-        output_len: usize,
-        answer: *mut u64,
-        answer_len: usize,
-    ) -> usize;
-    fn sheet_place(slots: *const u64, slots_len: usize, counts: *const u16, counts_len: usize, rank: usize, answer: *mut u64, answer_len: usize) -> usize;
-    fn sheet_check(slots: *const u64, slots_len: usize, counts: *const u16, counts_len: usize, answer: *mut u64, answer_len: usize) -> usize;
-}
-
-#[derive(Clone, PartialEq, Eq)]
+#[derive(Clone, Debug, PartialEq, Eq)]
 pub struct Store {
     pub slots: Vec<u64>,
     pub counts: Vec<u16>,
@@ -72,91 +32,105 @@ pub trait Side {
     fn delete(store: &mut Store, rank: usize, tape: &[u32]) -> Returned;
 }
 
-/// The proved library, through its C functions. Each pointer comes from a live
-/// slice of the length beside it, and no two slices overlap.
-pub struct Proved;
+/// A side that is called through the functions of `include/sheet.h`, or others
+/// that take and return the same. Each pointer comes from a live slice of the
+/// length beside it, and no two slices overlap.
+macro_rules! side_in_c {
+    ($side:ident, $check:ident, $place:ident, $read:ident, $insert:ident, $delete:ident) => {
+        extern "C" {
+            fn $check(slots: *const u64, slots_len: usize, counts: *const u16, counts_len: usize, answer: *mut u64, answer_len: usize) -> usize;
+            fn $place(slots: *const u64, slots_len: usize, counts: *const u16, counts_len: usize, rank: usize, answer: *mut u64, answer_len: usize) -> usize;
+            fn $read(
+                slots: *const u64,
+                slots_len: usize,
+                counts: *const u16,
+                counts_len: usize,
+                first: usize,
+                last: usize,
+                output: *mut u64,
+                output_len: usize,
+                answer: *mut u64,
+                answer_len: usize,
+            ) -> usize;
+            fn $insert(
+                slots: *mut u64,
+                slots_len: usize,
+                counts: *mut u16,
+                counts_len: usize,
+                rank: usize,
+                entry: u64,
+                tape: *const u32,
+                tape_len: usize,
+                answer: *mut u64,
+                answer_len: usize,
+            ) -> usize;
+            fn $delete(
+                slots: *mut u64,
+                slots_len: usize,
+                counts: *mut u16,
+                counts_len: usize,
+                rank: usize,
+                tape: *const u32,
+                tape_len: usize,
+                answer: *mut u64,
+                answer_len: usize,
+            ) -> usize;
+        }
 
-impl Side for Proved {
-    #[inline(never)]
-    fn check(store: &Store) -> Returned {
-        let (s, c) = (&store.slots, &store.counts);
-        let mut answer = [0; 2];
-        let number = unsafe { sheet_check(s.as_ptr(), s.len(), c.as_ptr(), c.len(), answer.as_mut_ptr(), 2) };
-        [number as u64, answer[0], answer[1]]
-    }
+        impl Side for $side {
+            #[inline(never)]
+            fn check(store: &Store) -> Returned {
+                let (s, c, mut a) = (&store.slots, &store.counts, [0; 2]);
+                let number = unsafe { $check(s.as_ptr(), s.len(), c.as_ptr(), c.len(), a.as_mut_ptr(), 2) };
+                [number as u64, a[0], a[1]]
+            }
 
-    #[inline(never)]
-    fn place(store: &Store, rank: usize) -> Returned {
-        let (s, c) = (&store.slots, &store.counts);
-        let mut answer = [0; 2];
-        let number = unsafe { sheet_place(s.as_ptr(), s.len(), c.as_ptr(), c.len(), rank, answer.as_mut_ptr(), 2) };
-        [number as u64, answer[0], answer[1]]
-    }
+            #[inline(never)]
+            fn place(store: &Store, rank: usize) -> Returned {
+                let (s, c, mut a) = (&store.slots, &store.counts, [0; 2]);
+                let number = unsafe { $place(s.as_ptr(), s.len(), c.as_ptr(), c.len(), rank, a.as_mut_ptr(), 2) };
+                [number as u64, a[0], a[1]]
+            }
 
-    #[inline(never)]
-    fn read(store: &Store, first: usize, last: usize, output: &mut [u64]) -> Returned {
-        let (s, c) = (&store.slots, &store.counts);
-        let mut answer = [0; 2];
-        let number = unsafe {
-            sheet_read(
-                s.as_ptr(),
-                s.len(),
-                c.as_ptr(),
-                c.len(),
-                first,
-                last,
-                output.as_mut_ptr(),
-                output.len(),
-                answer.as_mut_ptr(),
-                2,
-            )
-        };
-        [number as u64, answer[0], answer[1]]
-    }
+            #[inline(never)]
+            fn read(store: &Store, first: usize, last: usize, output: &mut [u64]) -> Returned {
+                let (s, c, mut a) = (&store.slots, &store.counts, [0; 2]);
+                let (o, o_len) = (output.as_mut_ptr(), output.len());
+                let number = unsafe { $read(s.as_ptr(), s.len(), c.as_ptr(), c.len(), first, last, o, o_len, a.as_mut_ptr(), 2) };
+                [number as u64, a[0], a[1]]
+            }
 
-    #[inline(never)]
-    fn insert(store: &mut Store, rank: usize, entry: u64, tape: &[u32]) -> Returned {
-        let Store { slots: s, counts: c } = store;
-        let mut answer = [0; 2];
-        let number = unsafe {
-            sheet_insert(
-                s.as_mut_ptr(),
-                s.len(),
-                c.as_mut_ptr(),
-                c.len(),
-                rank,
-                entry,
-                tape.as_ptr(),
-                tape.len(),
-                answer.as_mut_ptr(),
-                2,
-            )
-        };
-        [number as u64, answer[0], answer[1]]
-    }
+            #[inline(never)]
+            fn insert(store: &mut Store, rank: usize, entry: u64, tape: &[u32]) -> Returned {
+                let (s, c, mut a) = (&mut store.slots, &mut store.counts, [0; 2]);
+                let (t, t_len) = (tape.as_ptr(), tape.len());
+                let number = unsafe { $insert(s.as_mut_ptr(), s.len(), c.as_mut_ptr(), c.len(), rank, entry, t, t_len, a.as_mut_ptr(), 2) };
+                [number as u64, a[0], a[1]]
+            }
 
-    #[inline(never)]
-    fn delete(store: &mut Store, rank: usize, tape: &[u32]) -> Returned {
-        let Store { slots: s, counts: c } = store;
-        let mut answer = [0; 2];
-        let number = unsafe {
-            sheet_delete(
-                s.as_mut_ptr(),
-                s.len(),
-                c.as_mut_ptr(),
-                c.len(),
-                rank,
-                tape.as_ptr(),
-                tape.len(),
-                answer.as_mut_ptr(),
-                2,
-            )
-        };
-        [number as u64, answer[0], answer[1]]
-    }
+            #[inline(never)]
+            fn delete(store: &mut Store, rank: usize, tape: &[u32]) -> Returned {
+                let (s, c, mut a) = (&mut store.slots, &mut store.counts, [0; 2]);
+                let (t, t_len) = (tape.as_ptr(), tape.len());
+                let number = unsafe { $delete(s.as_mut_ptr(), s.len(), c.as_mut_ptr(), c.len(), rank, t, t_len, a.as_mut_ptr(), 2) };
+                [number as u64, a[0], a[1]]
+            }
+        }
+    };
 }
 
-/// The second implementation, `tests/reference`.
+/// The proved library.
+pub struct Proved;
+
+side_in_c!(Proved, sheet_check, sheet_place, sheet_read, sheet_insert, sheet_delete);
+
+/// The calls in C, `c_side.c`.
+pub struct C;
+
+side_in_c!(C, c_check, c_place, c_read, c_insert, c_delete);
+
+/// The second implementation, `tests/reference`: not measured, the others are
+/// compared with it.
 pub struct Reference;
 
 fn returned(answer: Answer) -> Returned {

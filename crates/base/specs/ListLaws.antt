@@ -1,15 +1,19 @@
--- Laws of lists: their members, parts and sums, and the equality test.
-use mathlib.Core.Path.{_≡_, refl, sym, _∙_, ap₂}
+-- Laws of lists: their members, parts and sums, the values of a function, and the equality test.
+use mathlib.Core.Path.{_≡_, refl, sym, _∙_, ap, ap₂}
 use mathlib.Core.Bool.{true}
 use mathlib.Core.List.{List, [], _∷_, _++_, map}
+use mathlib.Core.Logic.{_⊎_, inl, inr, ⊎-elim}
 use Prim.Native.Nat.{ℕ, zero, suc, _+_, _-_, _≤_, _<_}
 use native.Mathlib.Omega.{arith}
-use native.Mathlib.Nat.{le-of-suc-le-suc, not-suc-le-zero, sub-zero, suc-sub-suc, zero-sub}
+use native.Mathlib.Nat.{add-zero, add-suc, le-of-suc-le-suc, not-suc-le-zero, sub-zero, suc-add, suc-sub-suc, zero-add, zero-sub}
+use native.Mathlib.Numerals.{add-one}
+use borrow.Author.Count.{below-more}
 use borrow.Author.Tests.{eq-eqb, eqb-true}
 use lib.Dec.{eqb}
 use lib.ListN.{length, getD, set, take, drop, replicate, length-append, length-take, length-drop, take-append-drop}
 use lib.Seq.{take-nil, take-take, take-append-le, drop-append-le, getD-take, getD-drop, length-take-le}
-use Rattle.base.specs.Lists.{Every, total, equalLists}
+use Rattle.base.specs.Lists.{Every, total, tabulate, equalLists}
+use Rattle.base.specs.CaseLaws.{eq-or-ne}
 use Rattle.base.specs.BoolLaws.{and-true-left, and-true-right}
 
 -- ---- every member
@@ -121,6 +125,45 @@ total-last n ns = total-append ns (n ∷ []) ∙ omega arith
 
 pub total-front : (i : ℕ) (ns : List ℕ) → total (take i ns) ≤ total ns
 total-front i ns = omega (arith, rw (take-append-drop i ns) at (total-append (take i ns) (drop i ns)))
+
+-- ---- the values of a function
+
+module _ (f : ℕ → ℕ) where
+  pub length-tabulate : (k n : ℕ) → length (tabulate f k n) ≡ n
+  unfolding tabulate
+  length-tabulate k zero = refl
+  length-tabulate k (suc n) = ap suc (length-tabulate (suc k) n)
+
+  pub getD-tabulate : (k n i d : ℕ) → i < n → getD (tabulate f k n) i d ≡ f (k + i)
+  unfolding tabulate
+  getD-tabulate k zero i d h = absurd (not-suc-le-zero h)
+  getD-tabulate k (suc n) zero d h = rw (add-zero k)
+  getD-tabulate k (suc n) (suc i) d h = getD-tabulate (suc k) n i d (le-of-suc-le-suc h) ∙ ap f (suc-add k i ∙ sym (add-suc k i))
+
+  pub every-tabulate : (P : ℕ → Type 0) (k n : ℕ) → ((j : ℕ) → k ≤ j → j < k + n → P (f j)) → Every P (tabulate f k n)
+  unfolding tabulate Every
+  every-tabulate P k zero h = tt
+  every-tabulate P k (suc n) h = (h k (omega arith) (omega arith), every-tabulate P (suc k) n (λ j a b. h j (omega arith) (omega arith)))
+
+  pub tabulate-append : (k m n : ℕ) → tabulate f k (m + n) ≡ tabulate f k m ++ tabulate f (k + m) n
+  unfolding tabulate
+  tabulate-append k zero n = rw (zero-add n, add-zero k)
+  tabulate-append k (suc m) n =
+      let shift : suc k + m ≡ k + suc m = omega arith in
+      rw (suc-add m n, ← shift, tabulate-append (suc k) m n)
+
+-- A number is one of the first n values of f, or none of them.
+pub find : (f : ℕ → ℕ) (i n : ℕ) → ((k : ℕ) × (k < n) × (i ≡ f k)) ⊎ ((k : ℕ) → k < n → (i ≡ f k → ⊥))
+find f i zero = inr (λ k h. absurd (not-suc-le-zero h))
+find f i (suc n) =
+    ⊎-elim
+    (λ e. inl (n, omega arith, e))
+    (λ ne.
+    ⊎-elim
+    (λ found. inl (found .0, omega (arith, found .1), found .2))
+    (λ none. inr (rw (← add-one n) (below-more (λ k. i ≡ f k → ⊥) n none ne)))
+    (find f i n))
+    (eq-or-ne i (f n))
 
 -- ---- the equality test
 

@@ -1,7 +1,8 @@
--- A property of every member of a list, the sum of a list, and the test that two lists of numbers are equal. Definitions only.
+-- A property of every member of a list, the sum of a list, the values of a function as a list, and the test that two lists of numbers are
+-- equal. Definitions only.
 use mathlib.Core.Bool.{Bool, true, false, _&&_}
 use mathlib.Core.List.{List, [], _∷_}
-use Prim.Native.Nat.{ℕ, _+_}
+use Prim.Native.Nat.{ℕ, zero, suc, _+_}
 use lib.Dec.{eqb}
 
 -- P holds of every member.
@@ -13,6 +14,11 @@ Every P (x ∷ xs) = P x × Every P xs
 unfoldable pub total : List ℕ → ℕ
 total [] = 0
 total (n ∷ ns) = n + total ns
+
+-- What f gives for k, k + 1, .., n in all.
+unfoldable pub tabulate : (ℕ → ℕ) → ℕ → ℕ → List ℕ
+tabulate f k zero = []
+tabulate f k (suc n) = f k ∷ tabulate f (suc k) n
 
 -- The two lists are equal.
 unfoldable pub equalLists : List ℕ → List ℕ → Bool

@@ -44,7 +44,8 @@ use Rattle.call_outcomes.specs.ChangeLaws.{outcome-drawn, outcome-ended}
 use Rattle.call_outcomes.specs.Plain.{plainChange, editOf, plain, changing, storeOf, outcomeOf}
 use Rattle.call_outcomes.specs.PlainLaws.{change-within, edit-change, edit-list}
 use Rattle.call_open.specs.AdmittedLaws.{change-decoded, change-free}
-use Rattle.call_change.specs.SheetChange.{ChangeReady}
+use Rattle.call_change.specs.declared.DrawnChange.{DrawnChange}
+use Rattle.call_change.specs.SheetChange.{ChangeReady, entriesBefore, WriteReady, written}
 
 -- ---- the answer of the update of the counts
 
@@ -98,6 +99,9 @@ module _ (cap : Capacity) (list : List ℕ) (s s′ : Shape) (change : Change) (
     counts-total = rw (part-entries, work-are, ← size′) (P .counts-total);
     counts-fit = rw (work-are, ← size′) (P .counts-fit);
   }
+
+  part-count : getD work (part .range) 0 ≡ countAfter change (length (partEntries M part slots))
+  part-count = rw (part-entries, work-are) (P .count)
 
   part-few : length (partEntries M part slots) ≤ length list
   part-few = rw part-entries (P .few)
@@ -234,33 +238,37 @@ module _ {cap : Capacity} (ready : CapacityReady cap) {change : Change} {e n m :
           ∙ shapeCounts-size (height (drawn .shape .size)) (cap .counts) (countAfter change n) (drawn .shape)
           (balanced-perfect (drawn .shape .size) (height (drawn .shape .size)) 0 (countAfter change n) (drawn .shape .tree) (new-shape .balanced)) new-fit
 
-      pub lay-ready : (room : ℕ) → cap .entries < room → LayReady m m′ part change work′ slots × (length (partEntries m part slots) < room)
-      lay-ready room list-room = (
-        part-ready cap (c .list) (c .shape) (drawn .shape) change e part planned m m′ slots work′ (p .admitted .size) (drawn .size-is) slots-are work′-are
-            (omega (arith, sizes-most .0, ready .few)) (omega (arith, sizes-most .1, ready .few)) slots-length work′-length,
-        omega (
-          arith,
-          part-few cap (c .list) (c .shape) (drawn .shape) change e part planned m m′ slots work′ (p .admitted .size) (drawn .size-is) slots-are work′-are,
-          sound .0 .room,
-        ),
-      )
+      abbrev d : DrawnChange
+      d = record { old = m; new = m′; part = part; change = change; entry = e }
 
-      -- what writing the counts asks, where they have so many bits
-      pub write-ready : (bits : ℕ) → 2 * cap .entries < 2 ^ bits
-          → (length counts ≡ length work′) × Every (λ k. k < 2 ^ bits) work′ × (2 * 2 ^ height (getD work′ 0 0) ≤ length work′)
-      write-ready bits wide = (
-        counts-length ∙ sym work′-length,
-        subst (Every (λ k. k < 2 ^ bits)) (sym (drawn .counts-are))
-            (shapeCounts-every (λ k. k < 2 ^ bits) (cap .counts) (countAfter change n) (drawn .shape) new-shape
-            (λ k h. omega (arith, drawn .size-is, sizes-most .1))),
-        rw (new-size, work′-length) new-fit,
-      )
+      -- what writing the change asks, where the counts have 16 bits
+      pub write-ready : 2 * cap .entries < 2 ^ 16 → WriteReady d (storeOf slots counts) work′
+      write-ready wide = record {
+        part-ready =
+            part-ready cap (c .list) (c .shape) (drawn .shape) change e part planned m m′ slots work′ (p .admitted .size) (drawn .size-is) slots-are work′-are
+            (omega (arith, sizes-most .0, ready .few)) (omega (arith, sizes-most .1, ready .few)) slots-length work′-length;
+        count =
+            part-count cap (c .list) (c .shape) (drawn .shape) change e part planned m m′ slots work′ (p .admitted .size) (drawn .size-is) slots-are work′-are;
+        lengths = counts-length ∙ sym work′-length;
+        small = subst (Every (λ k. k < 2 ^ 16)) (sym (drawn .counts-are))
+            (shapeCounts-every (λ k. k < 2 ^ 16) (cap .counts) (countAfter change n) (drawn .shape) new-shape
+            (λ k h. omega (arith, drawn .size-is, sizes-most .1)));
+        room = rw (new-size, work′-length) new-fit;
+      }
+
+      pub before-few : length (entriesBefore d slots) ≤ cap .entries
+      before-few =
+          omega (
+            arith,
+            part-few cap (c .list) (c .shape) (drawn .shape) change e part planned m m′ slots work′ (p .admitted .size) (drawn .size-is) slots-are work′-are,
+            sound .0 .room,
+          )
 
       pub change-done : (after : ℕ) (slots′ counts′ : List ℕ) → after ≡ countAfter change n
-          → slots′ ≡ layPart m m′ part change e work′ slots → counts′ ≡ countOrder (height (getD work′ 0 0)) work′
+          → storeOf slots′ counts′ ≡ written d work′ (storeOf slots counts)
           → outcomeOf (Changed after next) slots′ counts′ [] ≡ outcome (plain cap) (changing change e) tape (storeOf slots counts) []
-      unfolding layOut layCounts
-      change-done after slots′ counts′ a s k =
+      unfolding layOut layCounts written
+      change-done after slots′ counts′ a store-is =
           laid ∙ sym (outcome-drawn (plain cap) (plainChange change e) tape (storeOf slots counts) c (p .admitted .decided) (drawn .shape) next (run-is ∙ drawn .run-is))
         where
           number : after ≡ countAfter (editOf (plainChange change e) .change) (length (c .list))
@@ -268,7 +276,7 @@ module _ {cap : Capacity} (ready : CapacityReady cap) {change : Change} {e n m :
 
           new-slots : slots′ ≡ laySlots (cap .slots) (applied (editOf (plainChange change e)) (c .list)) (drawn .shape)
           new-slots =
-              s
+              ap (λ (t : Store). t .slots) store-is
               ∙ part-laid cap (c .list) (c .shape) (drawn .shape) change e part planned m m′ slots work′ (p .admitted .size) (drawn .size-is) slots-are work′-are
               ∙ rw (edit-list change e (c .list))
 
@@ -277,7 +285,7 @@ module _ {cap : Capacity} (ready : CapacityReady cap) {change : Change} {e n m :
 
           new-counts : counts′ ≡ layCounts (cap .counts) (length (applied (editOf (plainChange change e)) (c .list))) (drawn .shape)
           new-counts =
-              k
+              ap (λ (t : Store). t .counts) store-is
               ∙ ap₂ (λ (M : ℕ) (xs : List ℕ). countOrder (height M) xs) new-size
               (work′-are ∙ ap (λ (j : ℕ). shapeCounts (cap .counts) j (drawn .shape)) entries)
 

@@ -1,63 +1,41 @@
-// An insert or a delete that no cause before 7 refuses.
+// An insert or a delete that no cause before 7 refuses, written into the store once everything is drawn.
 ghost use mathlib.Core.Path.{_≡_};
-ghost use mathlib.Core.List.{[]};
-ghost use Prim.Native.Nat.{_*_, _^_, _<_};
+ghost use Prim.Native.Nat.{_+_, _<_};
 ghost use lib.ListN.{length};
-ghost use Rattle.store_layout.specs.Room.{CapacityReady};
-ghost use Rattle.call_outcomes.specs.Outcome.{outcome};
-ghost use Rattle.call_outcomes.specs.Plain.{plain, changing, storeOf, outcomeOf};
-ghost use Rattle.call_change.specs.SheetChange.{ChangeReady};
-use call_outcomes::Answer;
-use call_outcomes::Cause;
-use store_layout::Capacity;
+ghost use Rattle.call_outcomes.specs.Plain.{storeOf};
+ghost use Rattle.call_change.specs.SheetChange.{entriesBefore, WriteReady, written};
+use tree_counts::Part;
 use tree_rules::Change;
 use tree_sizes::Size;
-use tree_walk::Updated;
 
-// Carries out the change of a sheet of n entries with the size parameter m, whose counts the work array has by range number. Everything is
-// drawn in the work array; the slices are written only after that. The part of the list that is laid out anew passes through the lent list.
-pub fn change(
-    cap: Capacity,
+// A change for which everything is drawn: the size parameter before and after it, the part that it is confined to, and the entry of an
+// insert.
+pub struct DrawnChange {
+    pub old: usize,
+    pub new: usize,
+    pub part: Part,
+    pub change: Change,
+    pub entry: u64,
+}
+
+// Writes a drawn change into the store: the part is laid out anew by the counts that the work array has by range number, and these are
+// written in their order. The entries of the part pass through the lent list.
+pub fn write_change(
     slots: &mut [u64],
     counts: &mut [u16],
-    work: &mut [u32],
+    work: &[u32],
     list: &mut [u64],
-    n: usize,
-    m: usize,
-    change: Change,
-    e: u64,
-    tape: &[u32],
-) -> Answer
-    requires capacity { ⌜ CapacityReady cap ⌝ }
-    requires width { ⌜ 2 * cap .entries < 2 ^ 16 ⌝ }
-    requires room { ⌜ cap .entries < length (now list) ⌝ }
-    requires sheet { ⌜ ChangeReady cap change e n m (storeOf (now slots) (now counts)) (now work) ⌝ }
-    ensures { λ r. ⌜ outcomeOf r (now (slots .exit)) (now (counts .exit)) []
-        ≡ outcome (plain cap) (changing change e) (now (tape .entry)) (storeOf (now (slots .entry)) (now (counts .entry))) [] ⌝ }
+    drawn: DrawnChange,
+)
+    requires ready { ⌜ WriteReady drawn (storeOf (now slots) (now counts)) (now work) ⌝ }
+    requires room { ⌜ length (entriesBefore drawn (now slots)) + 1 < length (now list) ⌝ }
+    ensures { λ _. ⌜ storeOf (now (slots .exit)) (now (counts .exit))
+        ≡ written drawn (now (work .entry)) (storeOf (now (slots .entry)) (now (counts .entry))) ⌝ }
 {
-    let after = tree_counts::count_after(change, n);
-    match tree_update::update(change, n, m, work, tape) {
-        Updated::Done {
-            m: size,
-            part,
-            next,
-        } => {
-            store_part::lay_part(
-                slots,
-                Size { m: m },
-                Size { m: size },
-                part,
-                change,
-                e,
-                work,
-                list,
-            );
-            store_counts::write_counts(work, counts);
-            Answer::Changed {
-                n: after,
-                words: next,
-            }
-        }
-        Updated::Ended => Answer::Refused(Cause::TapeEnded),
-    }
+    let old = Size { m: drawn.old };
+    let new = Size { m: drawn.new };
+    let part = drawn.part;
+    let change = drawn.change;
+    store_part::lay_part(slots, old, new, part, change, drawn.entry, work, list);
+    store_counts::write_counts(work, counts);
 }

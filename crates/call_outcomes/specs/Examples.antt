@@ -2,7 +2,7 @@
 use mathlib.Core.Path.{_≡_, refl}
 use mathlib.Core.List.{[], _∷_, map}
 use Rattle.base.specs.Cases.{ifEq, ifLt, ifLe}
-use Rattle.base.specs.Lists.{equalLists}
+use Rattle.base.specs.Lists.{tabulate, equalLists}
 use Rattle.draw.specs.Draw.{scan, drawFrom, drawAt}
 use Rattle.draw_shares.specs.Program.{_>>=_}
 use Rattle.draw_shares.specs.Tape.{runAt, afterDraw}
@@ -16,7 +16,7 @@ use Rattle.store_layout.specs.declared.Capacity.{Capacity}
 use Rattle.store_layout.specs.Layout.{Store, leafCounts, layLeaves, padTo, laySlots, layCounts, layOut}
 use Rattle.store_order.specs.Occurs.{indexOf}
 use Rattle.store_order.specs.TreeOrder.{each, orderBy, treeOrder}
-use Rattle.store_order.specs.CountOrder.{stored, countPlace, rangeAt, pick, reorder, countOrder, numberOrder}
+use Rattle.store_order.specs.CountOrder.{stored, countPlace, rangeAt, reorder, countOrder, numberOrder}
 use Rattle.store_layout.specs.Decode.{numbered, listOf, shapeOf, balancedTest, shapeTest, laidTest, sheetTest, decode}
 use Rattle.call_outcomes.specs.declared.Cause.the-variants.{TapeEnded}
 use Rattle.call_outcomes.specs.declared.Answer.the-variants.{Changed, Refused}
@@ -36,5 +36,5 @@ written : map (λ tape. outcome (plain tiny) (insert 1 0xB) tape one []) ((1 ∷
     ≡ record { answer = Changed 2 1; store = record { slots = 0xA ∷ 0 ∷ 0xB ∷ 0 ∷ 0 ∷ 0 ∷ []; counts = 3 ∷ 2 ∷ 0 ∷ 0 ∷ [] }; output = [] }
     ∷ record { answer = Refused TapeEnded; store = one; output = [] }
     ∷ []
-unfolding tiny one outcome outcomeBy finished refused answerOf entriesOf effect edited applied decision lookedAt storeDecision byLengths byFound byArguments argumentCause rightLengths foundBy changeCause editOf firstOf changeList update reshape fresh sizeStep insertSize grow rebuild walk countAfter runAt afterDraw drawAt drawFrom scan ifEq ifLt ifLe _>>=_ decode sheetTest laidTest shapeTest balancedTest shapeOf shapeIn numbered numberOrder countPlace listOf nonzero readTree equalLists layOut laySlots layCounts padTo layLeaves leafCounts spread putEntries slotOf leafSlots height digits doublings countOrder rangeAt stored treeOrder orderBy each indexOf reorder pick shapeCounts writeTree
+unfolding tiny one outcome outcomeBy finished refused answerOf entriesOf effect edited applied decision lookedAt storeDecision byLengths byFound byArguments argumentCause rightLengths foundBy changeCause editOf firstOf changeList update reshape fresh sizeStep insertSize grow rebuild walk countAfter runAt afterDraw drawAt drawFrom scan ifEq ifLt ifLe _>>=_ decode sheetTest laidTest shapeTest balancedTest shapeOf shapeIn numbered numberOrder countPlace listOf nonzero readTree equalLists layOut laySlots layCounts padTo layLeaves leafCounts spread putEntries slotOf leafSlots height digits doublings countOrder rangeAt stored treeOrder orderBy each indexOf reorder tabulate shapeCounts writeTree
 written = refl

@@ -2,10 +2,10 @@
 use mathlib.Core.Path.{_≡_, refl, _∙_}
 use mathlib.Core.Logic.{_≢_}
 use mathlib.Core.List.{List, [], _∷_}
-use Prim.Native.Nat.{ℕ, zero, suc, _+_, _*_, _/_, _%_, _<_, _≤_, _^_}
+use Prim.Native.Nat.{ℕ, zero, suc, _+_, _-_, _*_, _/_, _%_, _<_, _≤_, _^_}
 use native.Mathlib.Omega.{arith}
 use native.Mathlib.Numerals.{add-one}
-use native.Mathlib.Nat.{div-mul-le-self, mod-lt, mul-comm, zero-mul}
+use native.Mathlib.Nat.{div-add-mod, div-eq-of-lt, div-lt-iff-lt-mul, le-div-iff-mul-le, mod-lt, mul-le-mul-left, mul-zero, zero-mul}
 use lib.ListN.{length, getD, drop, drop-of-length-le, length-drop}
 use lib.Seq.{drop-cons}
 use Rattle.base.specs.CaseLaws.{ifEq-yes, ifEq-no, ifLt-yes, ifLt-no, by-eq, by-lt}
@@ -54,8 +54,24 @@ module _ (W : ℕ) (tape : List ℕ) (at : ℕ) where
   pub draw-none : drawFrom W 0 tape at ≡ Ended
   draw-none = draw-many 0 (λ e. omega arith) ∙ rw (zero-mul (W / 0)) (scan-none 0 (drop at tape) at)
 
-pub limit-le : (W m : ℕ) → m * (W / m) ≤ W
-limit-le W m = rw (mul-comm m (W / m)) (div-mul-le-self W m)
+  pub draw-above : (m : ℕ) → m ≢ 1 → W < m → drawFrom W m tape at ≡ Ended
+  draw-above m ne h = draw-many m ne ∙ rw (div-eq-of-lt h, mul-zero m) (scan-none m (drop at tape) at)
+
+-- A word is below the limit exactly where the largest multiple of m up to the word is at most W - m.
+module _ (W m word : ℕ) (pos : 0 < m) (few : m ≤ W) where
+  whole : m * (word / m) + word % m ≡ word
+  whole = div-add-mod word m
+
+  pub word-below : word - word % m ≤ W - m → word < m * (W / m)
+  word-below h =
+      let next : word / m + 1 ≤ W / m = le-div-iff-mul-le pos .1 (omega (arith, whole)) in
+      omega (arith, whole, mod-lt word pos, mul-le-mul-left m next)
+
+  pub word-above : W - m < word - word % m → m * (W / m) ≤ word
+  word-above h =
+      let below : W / m < word / m + 1 = div-lt-iff-lt-mul pos .1 (omega (arith, whole)) in
+      let most : W / m ≤ word / m = omega (arith, below) in
+      omega (arith, whole, mul-le-mul-left m most)
 
 -- A face is below m, and the place does not go back.
 pub record Sound (m at face next : ℕ) : Type 0 where

@@ -57,7 +57,8 @@ pub struct TapePlace {
     pub at: usize,
 }
 
-// A draw among m faces by the words of the tape from the place `at` on: the place is a number in and out.
+// A draw among m faces by the words of the tape from the place `at` on: the place is a number in and out. A word is below m * (2^32 / m)
+// exactly where its multiple of m, word - word % m, is at most 2^32 - m, so that each word takes one division.
 fn draw_at(tape: &[u32], at: usize, m: usize) -> Drawn
     ensures { λ r. ⌜ r ≡ drawAt m (now (tape .entry)) at ⌝ }
 {
@@ -67,12 +68,15 @@ fn draw_at(tape: &[u32], at: usize, m: usize) -> Drawn
     if m == 0 {
         return Drawn::Ended;
     }
-    let limit = m * (4294967296 / m);
+    if m > 4294967296 {
+        return Drawn::Ended;
+    }
+    let last = 4294967296 - m;
     let mut i = at;
     while i < tape.len() {
         let word = tape[i] as usize;
-        if word < limit {
-            let face = word % m;
+        let face = word % m;
+        if word - face <= last {
             let next = i + 1;
             return Drawn::Face {
                 face: face,

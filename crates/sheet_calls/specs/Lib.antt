@@ -1,4 +1,4 @@
 -- What the code of the six calls comes to, for any capacity.
 pub mod CallLaws
 pub mod ClearLaws
-pub mod ClubsReady
+pub mod AtClubs

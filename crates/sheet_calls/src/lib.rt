@@ -12,6 +12,7 @@ use call_outcomes::Answer;
 use call_outcomes::Cause;
 use store_layout::Capacity;
 use tree_rules::Change;
+use tree_sizes::Size;
 
 // What the clubs' store has room for.
 fn capacity() -> Capacity
@@ -54,21 +55,11 @@ pub fn make_change(
 {
     let cap = capacity();
     let mut work = [0u32; 256];
-    let mut list = [0u64; 1025];
     let opened = call_open::examine(cap, slots, counts, &mut work);
     match call_open::admit_change(opened, cap.entries, change, entry) {
-        Opened::Sheet { n, m } => call_change::change(
-            cap,
-            slots,
-            counts,
-            &mut work,
-            &mut list,
-            n,
-            m,
-            change,
-            entry,
-            tape,
-        ),
+        Opened::Sheet { n, m } => {
+            sheet_change::change(slots, counts, &mut work, n, m, change, entry, tape)
+        }
         Opened::Refused(cause) => Answer::Refused(cause),
     }
 }
@@ -95,7 +86,7 @@ pub fn delete(slots: &mut [u64], counts: &mut [u16], rank: usize, tape: &[u32]) 
     make_change(slots, counts, Change::Delete(rank), 0, tape)
 }
 
-// Copies the entries of ranks first to last to the front of the output.
+// Copies the entries of ranks first to last to the front of the output, from the leaf on in which the first of them stands.
 pub fn read(slots: &[u64], counts: &[u16], first: usize, last: usize, output: &mut [u64]) -> Answer
     ensures { λ r. ⌜ outcomeOf r (now (slots .entry)) (now (counts .entry)) (now (output .exit))
         ≡ outcome (plain clubs) (call.read first last (length (now (output .entry)))) [] (storeOf (now (slots .entry)) (now (counts .entry))) (now (output .entry)) ⌝ }
@@ -103,9 +94,10 @@ pub fn read(slots: &[u64], counts: &[u16], first: usize, last: usize, output: &m
     let mut work = [0u32; 256];
     let opened = call_open::examine(capacity(), slots, counts, &mut work);
     match call_open::admit_read(opened, first, last, output.len()) {
-        Opened::Sheet { n: _, m: _ } => {
+        Opened::Sheet { n: _, m } => {
             let count = last - first + 1;
-            store_slices::read_out(slots, first, count, output);
+            let start = store_rank::start_of(Size { m: m }, &work, first);
+            store_slices::read_from(slots, start.slot, start.rank, count, output);
             Answer::Entries { count: count }
         }
         Opened::Refused(cause) => Answer::Refused(cause),

@@ -1,9 +1,9 @@
 -- The loop that gathers the entries of some slots: what the list holds after i slots.
-use mathlib.Core.Path.{_≡_, refl, sym, ap, _∙_}
+use mathlib.Core.Path.{_≡_, refl, ap, _∙_}
 use mathlib.Core.List.{List, [], _∷_, _++_, append-nil}
-use Prim.Native.Nat.{ℕ, suc, _+_, _≤_, _<_}
-use lib.ListN.{length, getD, set, take, drop, length-append, take-append-drop}
-use lib.Seq.{append-snoc, take-suc, take-all, drop-cons, set-at}
+use Prim.Native.Nat.{ℕ, _+_, _≤_, _<_}
+use lib.ListN.{length, getD, set, take, drop, length-append, length-set, take-append-drop}
+use lib.Seq.{take-suc, take-all, take-set-le, take-suc-set}
 use native.Mathlib.Numerals.{add-one}
 use native.Mathlib.Omega.{arith}
 use Rattle.base.specs.ListLaws.{length-part, part-at}
@@ -68,44 +68,36 @@ module _ {slots : List ℕ} {from len : ℕ} {old : List ℕ} (ready : GatherRea
   part = take len (drop from slots)
 
   pub gathered-none : Gathered (nonzero (take 0 part)) old 0 old
-  gathered-none = record { number = rw nonzero-nil; front = rw nonzero-nil }
+  gathered-none = record { number = rw nonzero-nil; front = rw nonzero-nil; kept = refl }
 
-  module _ (i : ℕ) (more : i < len) where
-    one-more : nonzero (take (i + 1) part) ≡ nonzero (take i part) ++ nonzero (getD slots (from + i) 0 ∷ [])
-    one-more = next-slot slots from len (ready .slots-room) i more
+  module _ (i : ℕ) {list : List ℕ} {n : ℕ} (w : Gathered (nonzero (take i part)) old n list) where
+    pub gather-room : n < length list
+    gather-room = omega (arith, w .number, w .kept, nonzero-front i part, ready .list-room)
 
-    pub gathered-zero : {list : List ℕ} {n : ℕ} → Gathered (nonzero (take i part)) old n list → getD slots (from + i) 0 ≡ 0
-        → Gathered (nonzero (take (i + 1) part)) old n list
-    gathered-zero w e =
-        rw (one-more, nonzero-zero (getD slots (from + i) 0) [] e, nonzero-nil, append-nil (nonzero (take i part))) w
+    module _ (more : i < len) where
+      abbrev held : ℕ
+      held = getD slots (from + i) 0
 
-    module _ {list : List ℕ} {n : ℕ} (w : Gathered (nonzero (take i part)) old n list) (ne : getD slots (from + i) 0 ≡ 0 → ⊥) where
-      entry : nonzero (take (i + 1) part) ≡ nonzero (take i part) ++ (getD slots (from + i) 0 ∷ [])
-      entry = one-more ∙ rw (nonzero-entry (getD slots (from + i) 0) [] (omega arith), nonzero-nil)
+      one-more : nonzero (take (i + 1) part) ≡ nonzero (take i part) ++ nonzero (held ∷ [])
+      one-more = next-slot slots from len (ready .slots-room) i more
 
-      pub gather-room : n < length old
-      gather-room =
-          omega (
-            arith,
-            w .number,
-            nonzero-front (i + 1) part,
-            ready .list-room,
-            ap length entry,
-            length-append (nonzero (take i part)) (getD slots (from + i) 0 ∷ []),
-          )
+      pub gathered-zero : held ≡ 0 → Gathered (nonzero (take (i + 1) part)) old n (set list n held)
+      gathered-zero e =
+          rw (one-more, nonzero-zero held [] e, nonzero-nil, append-nil (nonzero (take i part)))
+          record {
+            number = w .number;
+            front = take-set-le n list n held (omega arith) ∙ w .front;
+            kept = length-set list n held ∙ w .kept;
+          }
 
-      pub gathered-entry : Gathered (nonzero (take (i + 1) part)) old (n + 1) (set list n (getD slots (from + i) 0))
-      gathered-entry = record {
-        number = rw (entry, length-append (nonzero (take i part)) (getD slots (from + i) 0 ∷ [])) (omega (arith, w .number));
-        front = rw (
-          w .front,
-          drop-cons old n 0 gather-room,
-          set-at (nonzero (take i part)) (getD old n 0) (drop (suc n) old) (getD slots (from + i) 0) n (sym (w .number)),
-          entry,
-          append-snoc (nonzero (take i part)) (getD slots (from + i) 0) (drop (n + 1) old),
-          add-one n,
-        );
-      }
+      pub gathered-entry : (held ≡ 0 → ⊥) → Gathered (nonzero (take (i + 1) part)) old (n + 1) (set list n held)
+      gathered-entry ne =
+          rw (one-more, nonzero-entry held [] (omega arith), nonzero-nil)
+          record {
+            number = rw (length-append (nonzero (take i part)) (held ∷ [])) (omega (arith, w .number));
+            front = rw (add-one n, take-suc-set list n held gather-room, w .front);
+            kept = length-set list n held ∙ w .kept;
+          }
 
   pub gathered-all : {list : List ℕ} {n : ℕ} (i : ℕ) → len ≤ i → Gathered (nonzero (take i part)) old n list
       → Gathered (nonzero part) old n list

@@ -106,36 +106,50 @@ module _ (leaf : Leaf) (list : List ℕ) where
   rule-length = length-spread s entries
 
   -- What the first i slots have and then the first j is what the first j have.
-  written-on : {old slots slots′ : List ℕ} {i j : ℕ} → LeafReady leaf old list → i ≤ j → j ≤ s → slots ≡ writtenTo leaf list i old
+  pub written-on : {old slots slots′ : List ℕ} {i j : ℕ} → LeafReady leaf old list → i ≤ j → j ≤ s → slots ≡ writtenTo leaf list i old
       → slots′ ≡ writtenTo leaf list j slots → slots′ ≡ writtenTo leaf list j old
   unfolding writtenTo
   written-on {old} {i = i} {j = j} ready l m e e′ =
       e′ ∙ rw e (paste-again old (leaf .from) (ruleOf leaf list) i j l (omega (arith, rule-length)) (omega (arith, ready .slots-room)))
 
-  written-length : {slots : List ℕ} (i : ℕ) → LeafReady leaf slots list → i ≤ s → length (writtenTo leaf list i slots) ≡ length slots
+  pub written-length : {slots : List ℕ} (i : ℕ) → LeafReady leaf slots list → i ≤ s → length (writtenTo leaf list i slots) ≡ length slots
   unfolding writtenTo
   written-length {slots} i ready l =
       length-paste slots (leaf .from) (ruleOf leaf list) i (omega (arith, ready .slots-room)) (omega (arith, rule-length))
 
+  pub written-none : (slots : List ℕ) → slots ≡ writtenTo leaf list 0 slots
+  unfolding writtenTo
+  written-none slots = paste-zero slots (leaf .from) (ruleOf leaf list)
+
   pub front-none : {slots : List ℕ} {position : Quotient} → LeafReady leaf slots list → Stands s n 0 position
       → InFront leaf list 0 (record { k = 0; position = position }) slots
-  unfolding writtenTo
   front-none {slots} ready here = record {
     ready = ready;
-    written = paste-zero slots (leaf .from) (ruleOf leaf list);
+    written = written-none slots;
     passed = passed-none (stands-slot here) (stands-end here (omega arith));
     stands = here;
   }
 
-  module _ {slots : List ℕ} {i : ℕ} {next : Next} (w : InFront leaf list i next slots) (more : i < s) where
-    -- slot i is written
-    write-is : (v : ℕ) → v ≡ getD (ruleOf leaf list) i 0 → set slots (leaf .from + i) v ≡ writtenTo leaf list (i + 1) slots
-    unfolding writtenTo
-    write-is v e =
-        ap (λ (x : List ℕ). set x (leaf .from + i) v) (w .written)
-        ∙ rw (e, add-one i)
-        (paste-suc slots (leaf .from) (ruleOf leaf list) i 0 (omega (arith, w .ready .slots-room)) (omega (arith, rule-length)))
+  -- Slot i is written.
+  pub slot-written : {slots : List ℕ} {i : ℕ} → LeafReady leaf slots list → slots ≡ writtenTo leaf list i slots → i < s
+      → (v : ℕ) → v ≡ getD (ruleOf leaf list) i 0 → set slots (leaf .from + i) v ≡ writtenTo leaf list (i + 1) slots
+  unfolding writtenTo
+  slot-written {slots} {i} ready written more v e =
+      ap (λ (x : List ℕ). set x (leaf .from + i) v) written
+      ∙ rw (e, add-one i)
+      (paste-suc slots (leaf .from) (ruleOf leaf list) i 0 (omega (arith, ready .slots-room)) (omega (arith, rule-length)))
 
+  pub written-all : (old : List ℕ) {slots : List ℕ} {i : ℕ} → i ≡ s → slots ≡ writtenTo leaf list i old
+      → slots ≡ take (leaf .from) old ++ spread s entries ++ drop (leaf .from + s) old
+  unfolding writtenTo ruleOf
+  written-all old e written = written ∙ rw (e, take-all s (spread s entries) (le-of-eq (length-spread s entries)))
+
+  -- What is written stays written.
+  pub written-again : {slots slots′ : List ℕ} {i : ℕ} → LeafReady leaf slots list → i ≤ s → slots′ ≡ writtenTo leaf list i slots
+      → slots′ ≡ writtenTo leaf list i slots′
+  written-again {i = i} ready l e = e ∙ sym (written-on ready (le-refl i) l e refl)
+
+  module _ {slots : List ℕ} {i : ℕ} {next : Next} (w : InFront leaf list i next slots) (more : i < s) where
     -- the pass is in front of the next slot
     further : {slots′ : List ℕ} {later : Next} → slots′ ≡ writtenTo leaf list (i + 1) slots
         → Passed (slotOf s n) n s (i + 1) (later .k) (later .position .whole) → Stands s n (later .k) (later .position)
@@ -148,7 +162,7 @@ module _ (leaf : Leaf) (list : List ℕ) where
           fit = w .ready .fit;
           small = w .ready .small;
         } in
-        let written : slots′ ≡ writtenTo leaf list (i + 1) slots′ = e ∙ sym (written-on (w .ready) (le-refl (i + 1)) (omega arith) e refl) in
+        let written : slots′ ≡ writtenTo leaf list (i + 1) slots′ = written-again (w .ready) (omega arith) e in
         (e, record { ready = ready; written = written; passed = passed; stands = there })
 
     pub entry-written : i ≡ next .position .whole → {later : Quotient} → Stands s n (next .k + 1) later
@@ -159,7 +173,7 @@ module _ (leaf : Leaf) (list : List ℕ) where
         let left = entry-left (w .passed) more e in
         let rule = slotOf-positions s n (w .ready .fit) in
         further
-        (write-is (getD list (leaf .at + next .k) 0)
+        (slot-written (w .ready) (w .written) more (getD list (leaf .at + next .k) 0)
         (sym (rw (entry-here (w .passed) more e)
         (spread-entry s n entries (length-part list (leaf .at) n (w .ready .list-room)) (w .ready .fit) (next .k) left ∙ part-at list (leaf .at) n (next .k) 0 left))))
         (passed-entry (w .passed) more rule e (stands-slot there) (stands-end there (omega (arith, left))))
@@ -171,7 +185,7 @@ module _ (leaf : Leaf) (list : List ℕ) where
     gap-written ne =
         let rule = slotOf-positions s n (w .ready .fit) in
         further
-        (write-is 0 (sym (spread-gap s n entries (length-part list (leaf .at) n (w .ready .list-room)) i more (gap-here (w .passed) more rule ne))))
+        (slot-written (w .ready) (w .written) more 0 (sym (spread-gap s n entries (length-part list (leaf .at) n (w .ready .list-room)) i more (gap-here (w .passed) more rule ne))))
         (passed-gap (w .passed) more rule ne)
         (w .stands)
 
@@ -191,7 +205,4 @@ module _ (leaf : Leaf) (list : List ℕ) where
 
   pub so-far-all : {old slots : List ℕ} {i : ℕ} {next : Next} → SoFar leaf list old i next slots → s ≤ i
       → slots ≡ take (leaf .from) old ++ spread s entries ++ drop (leaf .from + s) old
-  unfolding writtenTo ruleOf
-  so-far-all {i = i} w all =
-      let e : i ≡ s = omega (arith, w .front .passed .inside) in
-      w .written ∙ rw (e, take-all s (spread s entries) (le-of-eq (length-spread s entries)))
+  so-far-all {old} w all = written-all old (omega (arith, w .front .passed .inside)) (w .written)

@@ -70,7 +70,7 @@ module _ {old : List ℕ} {from s : ℕ} {counts : List ℕ} {first leaves : ℕ
       next-numbers : take (j + 1) numbers ≡ take j numbers ++ (n ∷ [])
       next-numbers = rw (add-one j, take-suc numbers j 0 (omega (arith, length-numbers)), at-number)
 
-      next-total : at + n ≡ total (take (j + 1) numbers)
+      pub next-total : at + n ≡ total (take (j + 1) numbers)
       next-total = rw (next-numbers, total-last n (take j numbers), w .at-is)
 
       pub slots-left : to + s ≤ length old

@@ -1,6 +1,6 @@
 -- What the code asks of its arguments, and what it answers of a list. Definitions only.
 use mathlib.Core.Path.{_≡_}
-use mathlib.Core.List.{List, _++_}
+use mathlib.Core.List.{List}
 use Prim.Native.Nat.{ℕ, _+_, _*_, _^_, _≤_, _<_}
 use lib.ListN.{length, take, drop}
 use Rattle.base.specs.Lists.{Every, total}
@@ -22,12 +22,13 @@ pub record LeavesReady (slots : List ℕ) (from s : ℕ) (counts : List ℕ) (fi
   pub fit : Every (λ n. n ≤ s) (take leaves (drop first counts))
   pub small : s < 2 ^ 32
 
--- Some slots, and a list with room for the entries in them.
+-- Some slots, and a list with room for the entries in them and one element more.
 pub record GatherReady (slots : List ℕ) (from len : ℕ) (list : List ℕ) : Type 0 where
   pub slots-room : from + len ≤ length slots
-  pub list-room : length (nonzero (take len (drop from slots))) ≤ length list
+  pub list-room : length (nonzero (take len (drop from slots))) < length list
 
--- The list now has these n entries at its front, and behind them what it had.
+-- The list now has these n entries at its front, and its old length; nothing is said of what stands behind them.
 pub record Gathered (entries old : List ℕ) (n : ℕ) (list : List ℕ) : Type 0 where
   pub number : n ≡ length entries
-  pub front : list ≡ entries ++ drop n old
+  pub front : take n list ≡ entries
+  pub kept : length list ≡ length old

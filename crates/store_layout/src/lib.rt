@@ -85,11 +85,11 @@ pub fn first_position(s: usize, n: usize, step: Quotient) -> Quotient
 }
 
 // A leaf: so many slots from `from` on, and so many entries, which stand in a list from `at` on.
-struct Leaf {
-    from: usize,
-    slots: usize,
-    at: usize,
-    entries: usize,
+pub struct Leaf {
+    pub from: usize,
+    pub slots: usize,
+    pub at: usize,
+    pub entries: usize,
 }
 
 // The entry of a leaf that comes next, and its position.
@@ -189,7 +189,8 @@ pub fn lay_leaves(
     }
 }
 
-// The entries of `len` slots from `from` on, put at the front of the list; how many they are.
+// The entries of `len` slots from `from` on, put at the front of the list; how many they are. What a slot holds is
+// written behind the entries found so far, and counted where it is not 0: so the loop needs no branch for what a slot holds.
 pub fn gather(slots: &[u64], from: usize, len: usize, list: &mut [u64]) -> usize
     requires { ⌜ GatherReady (now slots) from len (now list) ⌝ }
     ensures { λ r. ⌜ Gathered (nonzero (take len (drop from (now (slots .entry))))) (now (list .entry)) r (now (list .exit)) ⌝ }
@@ -198,9 +199,9 @@ pub fn gather(slots: &[u64], from: usize, len: usize, list: &mut [u64]) -> usize
     let mut i: usize = 0;
     while i < len {
         let held = slots[from + i];
+        list[n] = held;
         i += 1;
         if held != 0 {
-            list[n] = held;
             n += 1;
         }
     }

@@ -1,13 +1,13 @@
 -- Numbers copied from some indices of a list to others of another. Definitions only.
 use mathlib.Core.Path.{_≡_}
 use mathlib.Core.List.{List, [], _∷_}
-use Prim.Native.Nat.{ℕ, zero, suc, _≤_, _<_}
+use Prim.Native.Nat.{ℕ, _≤_, _<_}
 use lib.ListN.{length, getD, set}
+use Rattle.base.specs.Lists.{tabulate}
 
 -- The numbers k, k + 1, .., n in all.
-unfoldable pub up : ℕ → ℕ → List ℕ
-up k zero = []
-up k (suc n) = k ∷ up (suc k) n
+abbrev pub up : ℕ → ℕ → List ℕ
+up k n = tabulate (λ i. i) k n
 
 -- The list `to` with what `from` has at each of the indices `is`, at the index beside it in `js`.
 unfoldable pub copied : List ℕ → List ℕ → List ℕ → List ℕ → List ℕ

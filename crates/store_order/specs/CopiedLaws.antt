@@ -2,50 +2,33 @@
 use mathlib.Core.Path.{_≡_, refl, sym, ap, _∙_}
 use mathlib.Core.List.{List, [], _∷_, _++_}
 use mathlib.Core.Logic.{⊎-elim, _≢_}
-use Prim.Native.Nat.{ℕ, zero, suc, _+_, _-_, _≤_, _<_}
-use native.Mathlib.Nat.{add-zero, zero-add, suc-add, not-suc-le-zero, le-of-suc-le-suc}
+use Prim.Native.Nat.{ℕ, zero, suc, _+_, _≤_, _<_}
 use lib.Arith.{lt-of-le-ne}
 use native.Mathlib.Omega.{arith}
 use lib.ListN.{length, getD, set, length-append, length-set}
 use lib.Seq.{getD-set-same, getD-set-other}
 use Rattle.base.specs.CaseLaws.{eq-or-ne}
+use Rattle.base.specs.Lists.{tabulate}
+use Rattle.base.specs.ListLaws.{length-tabulate, getD-tabulate, tabulate-append}
 use Rattle.store_order.specs.Occurs.{occurs, indexOf}
 use Rattle.store_order.specs.OccursLaws.{occurs-here, occurs-later, index-here, index-later, at-index}
 use Rattle.store_order.specs.Copied.{up, copied, putTo, putFrom}
 
 -- ---- numbers one after the other
 
-pub length-up : (k n : ℕ) → length (up k n) ≡ n
-unfolding up
-length-up k zero = refl
-length-up k (suc n) = ap suc (length-up (suc k) n)
-
-pub getD-up : (k n i d : ℕ) → i < n → getD (up k n) i d ≡ k + i
-unfolding up
-getD-up k zero i d l = absurd (not-suc-le-zero l)
-getD-up k (suc n) zero d l = sym (add-zero k)
-getD-up k (suc n) (suc i) d l = getD-up (suc k) n i d (le-of-suc-le-suc l) ∙ omega arith
-
-pub up-append : (k m n : ℕ) → up k (m + n) ≡ up k m ++ up (k + m) n
-unfolding up
-up-append k zero n = rw (zero-add n, add-zero k)
-up-append k (suc m) n =
-    let shift : k + suc m ≡ suc k + m = omega arith in
-    rw (suc-add m n, shift, up-append (suc k) m n)
-
 module _ (r : ℕ) where
   pub up-below : (k n : ℕ) → r < k → occurs r (up k n) ≡ 0
-  unfolding up occurs
+  unfolding tabulate occurs
   up-below k zero l = refl
   up-below k (suc n) l = occurs-later r k (up (suc k) n) (λ e. omega (arith, e)) ∙ up-below (suc k) n (omega arith)
 
   pub up-above : (k n : ℕ) → k + n ≤ r → occurs r (up k n) ≡ 0
-  unfolding up occurs
+  unfolding tabulate occurs
   up-above k zero l = refl
   up-above k (suc n) l = occurs-later r k (up (suc k) n) (λ e. omega (arith, e)) ∙ up-above (suc k) n (omega arith)
 
   pub up-once : (k n : ℕ) → k ≤ r → r < k + n → occurs r (up k n) ≡ 1
-  unfolding up
+  unfolding tabulate
   up-once k zero low high = absurd (omega arith)
   up-once k (suc n) low high =
       ⊎-elim
@@ -56,7 +39,7 @@ module _ (r : ℕ) where
   pub index-up : (k n : ℕ) → k ≤ r → r < k + n → k + indexOf r (up k n) ≡ r
   index-up k n low high =
       let there = at-index r 0 (up k n) (omega (arith, up-once k n low high)) in
-      sym (getD-up k n (indexOf r (up k n)) 0 (omega (arith, there .0, length-up k n))) ∙ there .1
+      sym (getD-tabulate (λ i. i) k n (indexOf r (up k n)) 0 (omega (arith, there .0, length-tabulate (λ i. i) k n))) ∙ there .1
 
 -- ---- copied
 
@@ -108,21 +91,21 @@ module _ (from : List ℕ) where
   -- ---- to some indices, and from them
 
   pub putTo-one : (at k : ℕ) (to : List ℕ) → putTo at (k ∷ []) from to ≡ set to k (getD from at 0)
-  unfolding putTo copied up
+  unfolding putTo copied tabulate
   putTo-one at k to = refl
 
   pub putFrom-one : (at k : ℕ) (to : List ℕ) → putFrom at (k ∷ []) from to ≡ set to at (getD from k 0)
-  unfolding putFrom copied up
+  unfolding putFrom copied tabulate
   putFrom-one at k to = refl
 
   pub putTo-append : (at : ℕ) (ks ks′ to : List ℕ) → putTo at (ks ++ ks′) from to ≡ putTo (at + length ks) ks′ from (putTo at ks from to)
   unfolding putTo
   putTo-append at ks ks′ to =
-      rw (length-append ks ks′, up-append at (length ks) (length ks′))
-      (copied-append (up at (length ks)) ks (up (at + length ks) (length ks′)) ks′ to (length-up at (length ks)))
+      rw (length-append ks ks′, tabulate-append (λ i. i) at (length ks) (length ks′))
+      (copied-append (up at (length ks)) ks (up (at + length ks) (length ks′)) ks′ to (length-tabulate (λ i. i) at (length ks)))
 
   pub putFrom-append : (at : ℕ) (ks ks′ to : List ℕ) → putFrom at (ks ++ ks′) from to ≡ putFrom (at + length ks) ks′ from (putFrom at ks from to)
   unfolding putFrom
   putFrom-append at ks ks′ to =
-      rw (length-append ks ks′, up-append at (length ks) (length ks′))
-      (copied-append ks (up at (length ks)) ks′ (up (at + length ks) (length ks′)) to (sym (length-up at (length ks))))
+      rw (length-append ks ks′, tabulate-append (λ i. i) at (length ks) (length ks′))
+      (copied-append ks (up at (length ks)) ks′ (up (at + length ks) (length ks′)) to (sym (length-tabulate (λ i. i) at (length ks))))

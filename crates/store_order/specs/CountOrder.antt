@@ -1,9 +1,10 @@
 -- The order in which the counts of the ranges stand in a store. Definitions only.
 use mathlib.Core.Path.{_≡_}
-use mathlib.Core.List.{List, [], _∷_}
-use Prim.Native.Nat.{ℕ, zero, suc, _*_, _^_, _≤_, _<_}
+use mathlib.Core.List.{List, _∷_}
+use Prim.Native.Nat.{ℕ, suc, _*_, _^_, _≤_, _<_}
 use lib.ListN.{length, getD}
 use Rattle.base.specs.Cases.{ifLt}
+use Rattle.base.specs.Lists.{tabulate}
 use Rattle.store_order.specs.Occurs.{indexOf}
 use Rattle.store_order.specs.TreeOrder.{treeOrder}
 
@@ -29,14 +30,9 @@ pub record Permutes (h : ℕ) (place range : ℕ → ℕ) : Type 0 where
   pub ranges-stay : (k : ℕ) → 0 < k → k < 2 * 2 ^ h → (0 < place k) × (place k < 2 * 2 ^ h)
   pub unused-stay : (k : ℕ) → 2 * 2 ^ h ≤ k → place k ≡ k
 
--- What a list has at the indices f i, f (i + 1), .., n in all, and 0 past its end.
-unfoldable pub pick : (ℕ → ℕ) → List ℕ → ℕ → ℕ → List ℕ
-pick f xs i zero = []
-pick f xs i (suc n) = getD xs (f i) 0 ∷ pick f xs (suc i) n
-
--- The list of the same length that has at index i what the other has at index f i.
+-- The list of the same length that has at index i what the other has at index f i, and 0 where that is past its end.
 unfoldable pub reorder : (ℕ → ℕ) → List ℕ → List ℕ
-reorder f xs = pick f xs 0 (length xs)
+reorder f xs = tabulate (λ i. getD xs (f i) 0) 0 (length xs)
 
 -- Counts by range number, put into the order of the store.
 unfoldable pub countOrder : ℕ → List ℕ → List ℕ

@@ -2,22 +2,22 @@
 use mathlib.Core.Path.{_≡_, refl, sym, ap, _∙_}
 use mathlib.Core.List.{List, _∷_}
 use mathlib.Core.Logic.{⊎-elim}
-use Prim.Native.Nat.{ℕ, zero, suc, _+_, _-_, _*_, _^_, _≤_, _<_}
+use Prim.Native.Nat.{ℕ, zero, suc, _-_, _*_, _^_, _≤_, _<_}
 use lib.ListN.{length, getD, List·getD-eq-default}
 use lib.Pow.{pow-pos}
 use lib.Seq.{ext-getD}
-use native.Mathlib.Nat.{add-zero, add-suc, suc-add, zero-add, not-suc-le-zero, pow-suc}
+use native.Mathlib.Nat.{zero-add, pow-suc}
 use native.Mathlib.Omega.{arith}
-use Rattle.base.specs.Lists.{Every}
+use Rattle.base.specs.Lists.{Every, tabulate}
 use Rattle.base.specs.CaseLaws.{lt-or-ge, ifLt-yes, ifLt-no}
-use Rattle.base.specs.ListLaws.{every-at}
+use Rattle.base.specs.ListLaws.{every-at, length-tabulate, getD-tabulate, every-tabulate}
 use Rattle.store_order.specs.Occurs.{occurs, indexOf}
 use Rattle.store_order.specs.OccursLaws.{occurs-at, at-index, index-at}
 use Rattle.store_order.specs.Copied.{up}
 use Rattle.store_order.specs.CopiedLaws.{up-once, up-above}
 use Rattle.store_order.specs.TreeOrder.{treeOrder}
 use Rattle.store_order.specs.TreeOrderLaws.{length-order, order-first, order-permutes}
-use Rattle.store_order.specs.CountOrder.{stored, countPlace, rangeAt, Permutes, pick, reorder, countOrder, numberOrder}
+use Rattle.store_order.specs.CountOrder.{stored, countPlace, rangeAt, Permutes, reorder, countOrder, numberOrder}
 
 -- ---- the order
 
@@ -28,7 +28,7 @@ module _ (h : ℕ) where
 
   -- Each number of the tree stands in it once, and no other.
   stored-as-up : (k : ℕ) → occurs k (stored h) ≡ occurs k (up 0 (2 * 2 ^ h))
-  unfolding stored occurs up
+  unfolding stored occurs tabulate
   stored-as-up k =
       let room : 2 * 2 ^ h ≡ suc (2 ^ suc h - 1) = omega (arith, pow-suc 2 h, pow-pos h) in
       let whole : occurs k (0 ∷ treeOrder (suc h) 1) ≡ occurs k (up 0 (suc (2 ^ suc h - 1))) = rw (order-permutes k (suc h) (omega arith)) in
@@ -147,33 +147,17 @@ range-order h = permutes-back h (countPlace h) (rangeAt h) (count-order h)
 -- ---- a list in another order
 
 module _ (f : ℕ → ℕ) (xs : List ℕ) where
-  length-pick : (i n : ℕ) → length (pick f xs i n) ≡ n
-  unfolding pick
-  length-pick i zero = refl
-  length-pick i (suc n) = ap suc (length-pick (suc i) n)
-
-  getD-pick : (i n j : ℕ) → j < n → getD (pick f xs i n) j 0 ≡ getD xs (f (i + j)) 0
-  unfolding pick
-  getD-pick i zero j l = absurd (not-suc-le-zero l)
-  getD-pick i (suc n) zero l = rw (add-zero i)
-  getD-pick i (suc n) (suc j) l = getD-pick (suc i) n j (omega arith) ∙ rw (suc-add i j, add-suc i j)
-
-  every-pick : (P : ℕ → Type 0) → Every P xs → P 0 → (i n : ℕ) → Every P (pick f xs i n)
-  unfolding pick Every
-  every-pick P p none i zero = tt
-  every-pick P p none i (suc n) = (every-at P xs (f i) 0 p none, every-pick P p none (suc i) n)
-
   pub length-reorder : length (reorder f xs) ≡ length xs
   unfolding reorder
-  length-reorder = length-pick 0 (length xs)
+  length-reorder = length-tabulate (λ i. getD xs (f i) 0) 0 (length xs)
 
   pub getD-reorder : (i : ℕ) → i < length xs → getD (reorder f xs) i 0 ≡ getD xs (f i) 0
   unfolding reorder
-  getD-reorder i l = rw (zero-add i) at (getD-pick 0 (length xs) i l)
+  getD-reorder i l = rw (zero-add i) at (getD-tabulate (λ i. getD xs (f i) 0) 0 (length xs) i 0 l)
 
   pub every-reorder : (P : ℕ → Type 0) → Every P xs → P 0 → Every P (reorder f xs)
   unfolding reorder
-  every-reorder P p none = every-pick P p none 0 (length xs)
+  every-reorder P p none = every-tabulate (λ i. getD xs (f i) 0) P 0 (length xs) (λ i _ _. every-at P xs (f i) 0 p none)
 
   -- What stands at an index that stays is the same in both.
   pub reorder-stays : (i : ℕ) → f i ≡ i → getD (reorder f xs) i 0 ≡ getD xs i 0

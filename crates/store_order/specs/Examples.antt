@@ -2,9 +2,10 @@
 use mathlib.Core.Path.{_≡_, refl}
 use mathlib.Core.List.{[], _∷_}
 use Rattle.base.specs.Cases.{ifEq, ifLt, ifLe}
+use Rattle.base.specs.Lists.{tabulate}
 use Rattle.store_order.specs.Occurs.{indexOf}
 use Rattle.store_order.specs.TreeOrder.{each, orderBy, treeOrder}
-use Rattle.store_order.specs.CountOrder.{stored, countPlace, rangeAt, reorder, pick, countOrder, numberOrder}
+use Rattle.store_order.specs.CountOrder.{stored, countPlace, rangeAt, reorder, countOrder, numberOrder}
 
 -- three levels: the root, then the two subtrees of two levels
 three : treeOrder 3 1 ≡ 1 ∷ 2 ∷ 4 ∷ 5 ∷ 3 ∷ 6 ∷ 7 ∷ []
@@ -25,9 +26,9 @@ five = refl
 
 -- the counts of a tree of three levels, with two unused
 put : countOrder 2 (70 ∷ 1 ∷ 2 ∷ 3 ∷ 4 ∷ 5 ∷ 6 ∷ 7 ∷ 8 ∷ 9 ∷ []) ≡ 70 ∷ 1 ∷ 2 ∷ 4 ∷ 5 ∷ 3 ∷ 6 ∷ 7 ∷ 8 ∷ 9 ∷ []
-unfolding countOrder reorder pick rangeAt stored treeOrder orderBy each ifLt ifLe
+unfolding countOrder reorder tabulate rangeAt stored treeOrder orderBy each ifLt ifLe
 put = refl
 
 back : numberOrder 2 (70 ∷ 1 ∷ 2 ∷ 4 ∷ 5 ∷ 3 ∷ 6 ∷ 7 ∷ 8 ∷ 9 ∷ []) ≡ 70 ∷ 1 ∷ 2 ∷ 3 ∷ 4 ∷ 5 ∷ 6 ∷ 7 ∷ 8 ∷ 9 ∷ []
-unfolding numberOrder reorder pick countPlace stored treeOrder orderBy each indexOf ifEq ifLt ifLe
+unfolding numberOrder reorder tabulate countPlace stored treeOrder orderBy each indexOf ifEq ifLt ifLe
 back = refl

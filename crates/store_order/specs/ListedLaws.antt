@@ -10,15 +10,16 @@ use native.Mathlib.Nat.{pow-suc}
 use native.Mathlib.Numerals.{one-add}
 use native.Mathlib.Omega.{arith}
 use Rattle.base.specs.CaseLaws.{lt-or-ge}
+use Rattle.base.specs.ListLaws.{length-tabulate, getD-tabulate}
 use Rattle.store_order.specs.Occurs.{occurs, indexOf}
 use Rattle.store_order.specs.OccursLaws.{at-index, occurs-none, occurs-once}
 use Rattle.store_order.specs.Copied.{up, putTo, putFrom, RestCopied}
-use Rattle.store_order.specs.CopiedLaws.{length-up, getD-up, up-once, up-below, up-above, index-up, length-copied, copied-other, copied-at}
+use Rattle.store_order.specs.CopiedLaws.{up-once, up-below, up-above, index-up, length-copied, copied-other, copied-at}
 use Rattle.store_order.specs.TreeOrder.{treeOrder}
 use Rattle.store_order.specs.TreeOrderLaws.{length-order}
 use Rattle.store_order.specs.CountOrder.{stored, countPlace, rangeAt, Permutes, reorder, countOrder, numberOrder}
 use Rattle.store_order.specs.Places.{Listed, placesFrom}
-use Rattle.store_order.specs.PlacesLaws.{length-places, getD-places}
+use Rattle.store_order.specs.PlacesLaws.{getD-places}
 use Rattle.store_order.specs.CountOrderLaws.{range-inside, count-order, range-order, permutes-back, length-reorder, getD-reorder}
 
 -- A number is that of the size parameter or behind those of the ranges, or it is one of a range.
@@ -72,8 +73,8 @@ module _ (h : ℕ) (f g : ℕ → ℕ) (p : Permutes h f g) (ks : List ℕ) (l :
         (λ (within : (0 < k) × (k < 2 * 2 ^ h)).
         let once = listed-once k (within .0) (within .1) in
         let there = at-index k 0 ks (omega (arith, once)) in
-        copied-at xs (up 1 n) ks to k (length-up 1 n) once (rw (c .same-length) inside)
-        ∙ ap (λ (i : ℕ). getD xs i 0) (getD-up 1 n (indexOf k ks) 0 (there .0) ∙ index-is k (indexOf k ks) (there .0) (there .1))
+        copied-at xs (up 1 n) ks to k (length-tabulate (λ i. i) 1 n) once (rw (c .same-length) inside)
+        ∙ ap (λ (i : ℕ). getD xs i 0) (getD-tabulate (λ i. i) 1 n (indexOf k ks) 0 (there .0) ∙ index-is k (indexOf k ks) (there .0) (there .1))
         ∙ sym (getD-reorder f xs k inside))
         (in-or-out h k))
 
@@ -94,7 +95,7 @@ module _ (h : ℕ) (f g : ℕ → ℕ) (p : Permutes h f g) (ks : List ℕ) (l :
         (λ (within : (0 < i) × (i < 2 * 2 ^ h)).
         let below : i < 1 + n = omega (arith, within .1, l .all) in
         let index = index-up i 1 n (within .0) below in
-        copied-at xs ks (up 1 n) to i (sym (length-up 1 n)) (up-once i 1 n (within .0) below) (rw (c .same-length) inside)
+        copied-at xs ks (up 1 n) to i (sym (length-tabulate (λ i. i) 1 n)) (up-once i 1 n (within .0) below) (rw (c .same-length) inside)
         ∙ ap (λ (k : ℕ). getD xs k 0) (l .entry (indexOf i (up 1 n)) (omega (arith, index, below)) ∙ ap g index)
         ∙ sym (getD-reorder g xs i inside))
         (in-or-out h i))
@@ -110,8 +111,8 @@ ranges-listed h = record {
 
 places-listed : (h : ℕ) → Listed h (countPlace h) (placesFrom h 1 (2 * 2 ^ h - 1))
 places-listed h = record {
-  all = omega (arith, length-places h 1 (2 * 2 ^ h - 1), pow-pos h);
-  entry = λ i l. getD-places h 1 (2 * 2 ^ h - 1) i (rw (length-places h 1 (2 * 2 ^ h - 1)) at l);
+  all = omega (arith, length-tabulate (countPlace h) 1 (2 * 2 ^ h - 1), pow-pos h);
+  entry = λ i l. getD-places h 1 (2 * 2 ^ h - 1) i (rw (length-tabulate (countPlace h) 1 (2 * 2 ^ h - 1)) at l);
 }
 
 -- The counts of a store put to the numbers of their ranges, and counts by range number put to their places: by the order of the ranges, and

@@ -5,7 +5,8 @@ use mathlib.Core.List.{List, [], _++_, append-nil}
 use Prim.Native.Nat.{ℕ, _+_, _-_, _*_, _/_, _^_, _<_}
 use lib.ListN.{length, getD, set}
 use native.Mathlib.Omega.{arith}
-use Rattle.store_order.specs.Copied.{up, copied, putTo, putFrom}
+use Rattle.base.specs.Lists.{tabulate}
+use Rattle.store_order.specs.Copied.{copied, putTo, putFrom}
 use Rattle.store_order.specs.CopiedLaws.{putTo-one, putFrom-one, putTo-append, putFrom-append}
 use Rattle.store_order.specs.TreeOrder.{each, treeOrder}
 use Rattle.store_order.specs.TreeOrderLaws.{halves, order-one, order-more, length-order, length-each, each-append}
@@ -25,11 +26,11 @@ pub record Puts (put : ℕ → List ℕ → List ℕ → List ℕ) : Type 0 wher
 
 module _ (from : List ℕ) where
   pub puts-to : Puts (λ at ks to. putTo at ks from to)
-  unfolding putTo copied up
+  unfolding putTo copied tabulate
   puts-to = record { none = λ at to. refl; append = putTo-append from }
 
   pub puts-from : Puts (λ at ks to. putFrom at ks from to)
-  unfolding putFrom copied up
+  unfolding putFrom copied
   puts-from = record { none = λ at to. refl; append = putFrom-append from }
 
 module _ {put : ℕ → List ℕ → List ℕ → List ℕ} (p : Puts put) where

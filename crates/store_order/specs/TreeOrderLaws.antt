@@ -9,11 +9,12 @@ use native.Mathlib.Omega.{arith}
 use lib.ListN.{length, getD, length-append, List·getD-append}
 use lib.Pow.{pow-add, pow-pos, pow-lt}
 use Rattle.base.specs.CaseLaws.{le-or-gt, ifLe-yes, ifLe-no}
+use Rattle.base.specs.Lists.{tabulate}
+use Rattle.base.specs.ListLaws.{tabulate-append}
 use Rattle.store_order.specs.Occurs.{occurs}
 use Rattle.store_order.specs.OccursLaws.{occurs-append}
 use Rattle.store_order.specs.TreeOrder.{each, orderBy, treeOrder, preorder}
 use Rattle.store_order.specs.Copied.{up}
-use Rattle.store_order.specs.CopiedLaws.{up-append}
 
 -- ---- the two parts of a number of levels
 
@@ -182,13 +183,13 @@ module _ (r : ℕ) where
       ∙ ap (λ (x : ℕ). occurs r (preorder x k)) (halves H g .both))
 
   each-range : (k n : ℕ) → each (preorder 1) k n ≡ up k n
-  unfolding each preorder up
+  unfolding each preorder tabulate
   each-range k zero = refl
   each-range k (suc n) = ap (λ (xs : List ℕ). k ∷ xs) (each-range (suc k) n)
 
   -- The preorder of the whole tree has the numbers from 1 to 2 ^ H - 1 once each.
   occurs-whole : (H : ℕ) → occurs r (preorder H 1) ≡ occurs r (up 1 (2 ^ H - 1))
-  unfolding preorder up
+  unfolding preorder tabulate
   occurs-whole zero = refl
   occurs-whole (suc H) =
       let w = 2 ^ H in
@@ -197,7 +198,11 @@ module _ (r : ℕ) where
       ap (λ (x : ℕ). occurs r (preorder x 1)) (sym (add-one H))
       ∙ occurs-parts 1 H 1
       ∙ ap₂ _+_ (occurs-whole H) (ap (occurs r) (each-range (w * 1) w))
-      ∙ sym (ap (λ (x : ℕ). occurs r (up 1 x)) sum ∙ ap (occurs r) (up-append 1 (w - 1) w) ∙ occurs-append r (up 1 (w - 1)) (up (1 + (w - 1)) w) ∙ rw next)
+      ∙ sym
+      (ap (λ (x : ℕ). occurs r (up 1 x)) sum
+      ∙ ap (occurs r) (tabulate-append (λ i. i) 1 (w - 1) w)
+      ∙ occurs-append r (up 1 (w - 1)) (up (1 + (w - 1)) w)
+      ∙ rw next)
 
   -- For every H the order of the whole tree permutes the numbers 1 to 2 ^ H - 1: it has each of them once, and no other.
   pub order-permutes : (H : ℕ) → 0 < H → occurs r (treeOrder H 1) ≡ occurs r (up 1 (2 ^ H - 1))

@@ -39,12 +39,12 @@ pub record PartReady (M : ℕ) (part : Part) : Type 0 where
   pub most : M < 2 ^ 32
   pub inside : PartIn M part
 
--- There is room for the leaves of the part, and the list has their entries.
+-- There is room for the leaves of the part, and the list has their entries and one place more.
 pub record EntriesReady (M : ℕ) (part : Part) (counts list slots : List ℕ) : Type 0 where
   pub part-ready : PartReady M part
   pub room : partFrom M part + partLength M part ≤ length slots
   pub counts-room : part .range * leavesOf M (part .depth) + leavesOf M (part .depth) ≤ length counts
-  pub list-room : total (partCounts M part counts) ≤ length list
+  pub list-room : total (partCounts M part counts) < length list
   pub fit : Every (λ n. n ≤ leafSlots M) (partCounts M part counts)
 
 -- The part stands in both sheets, and the counts are those of its changed entries.

@@ -1,11 +1,10 @@
 -- Laws of laying out a part: its numbers are small, and what the steps of the code come to.
-use mathlib.Core.Path.{_≡_, sym, _∙_}
+use mathlib.Core.Path.{_≡_, _∙_}
 use mathlib.Core.List.{List, _++_}
 use Prim.Native.Nat.{ℕ, _+_, _-_, _*_, _^_, _≤_, _<_, max}
 use native.Mathlib.Omega.{arith}
 use native.Mathlib.Nat.{mul-le-mul-left, mul-add}
-use lib.ListN.{length, take, drop, replicate, length-append, length-drop}
-use lib.Seq.{take-at}
+use lib.ListN.{length, take, drop, replicate}
 use Rattle.base.specs.Lists.{total}
 use Rattle.tree_sizes.specs.Sizes.{leafSlots, slots}
 use Rattle.tree_sizes.specs.SizeLaws.{slots-le, leafSlots-most}
@@ -45,15 +44,20 @@ unfolding partLength partCounts
 leaves-ready M part counts list slots w = record {
   slots-room = w .room;
   counts-room = w .counts-room;
-  list-room = w .list-room;
+  list-room = omega (arith, w .list-room);
   fit = w .fit;
   small = leafSlots-most M (w .part-ready .most);
 }
 
+pub part-list-room : {M : ℕ} {part : Part} {counts list slots : List ℕ} → EntriesReady M part counts list slots
+    → total (take (leavesOf M (part .depth)) (drop (part .range * leavesOf M (part .depth)) counts)) < length list
+unfolding partCounts
+part-list-room w = w .list-room
+
 -- ---- the steps of laying a part out anew
 
 pub gather-ready : (M M′ : ℕ) (part : Part) (change : Change) (counts slots list : List ℕ) → LayReady M M′ part change counts slots
-    → length (partEntries M part slots) < length list → GatherReady slots (partFrom M part) (partLength M part) list
+    → length (partEntries M part slots) + 1 < length list → GatherReady slots (partFrom M part) (partLength M part) list
 unfolding partEntries
 gather-ready M M′ part change counts slots list w room = record { slots-room = w .old-room; list-room = omega arith }
 
@@ -73,28 +77,22 @@ zeroed-part M M′ part slots cleared from′ len′ from len last f′ l′ f l
 
 -- The list before, with the n entries of the part gathered into it, and with these changed.
 module _ {M M′ : ℕ} {part : Part} {change here : Change} {n : ℕ} {counts slots list gathered : List ℕ}
-    (ready : LayReady M M′ part change counts slots) (room : length (partEntries M part slots) < length list)
+    (ready : LayReady M M′ part change counts slots) (room : length (partEntries M part slots) + 1 < length list)
     (here-is : here ≡ atRank change (part .rank))
     (g : Gathered (partEntries M part slots) list n gathered) where
-  pub gathered-length : length gathered ≡ length list
-  gathered-length = rw (g .front) (simp (length-append, length-drop) (omega (arith, g .number)))
-
   pub change-ready : InReach here n × (n < length gathered)
-  change-ready = (rw (here-is, g .number) (ready .reach), omega (arith, gathered-length, g .number))
+  change-ready = (rw (here-is, g .number) (ready .reach), omega (arith, g .kept, g .number))
 
   module _ {e : ℕ} {changed : List ℕ} (c : Changed here e n gathered changed) where
     entries-are : take (countAfter change (length (partEntries M part slots))) changed ≡ changeList (atRank change (part .rank)) e (partEntries M part slots)
-    entries-are =
-        let first : take n gathered ≡ partEntries M part slots
-        = rw (g .front) (take-at (partEntries M part slots) (drop n list) n (sym (g .number))) in
-        rw (count-rank change (part .rank) n, first, g .number) at (rw here-is at (c .entries))
+    entries-are = rw (count-rank change (part .rank) n, g .front, g .number) at (rw here-is at (c .entries))
 
     pub entries-ready : (cleared : List ℕ) → length cleared ≡ length slots → EntriesReady M′ part counts changed cleared
     entries-ready cleared same = record {
       part-ready = ready .new-part;
       room = rw same (ready .new-room);
       counts-room = ready .counts-room;
-      list-room = omega (arith, ready .counts-total, count-most change (length (partEntries M part slots)), c .kept, gathered-length);
+      list-room = omega (arith, ready .counts-total, count-most change (length (partEntries M part slots)), c .kept, g .kept);
       fit = ready .counts-fit;
     }
 

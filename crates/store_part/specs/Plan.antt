@@ -2,7 +2,7 @@
 use mathlib.Core.Path.{_≡_}
 use mathlib.Core.List.{List, _++_}
 use Prim.Native.Nat.{ℕ, _+_, _-_, _*_, _^_, _≤_, _<_, max}
-use lib.ListN.{length, take, drop, replicate}
+use lib.ListN.{length, getD, take, drop, replicate}
 use Rattle.base.specs.Lists.{Every, total}
 use Rattle.tree_sizes.specs.Sizes.{height, leafSlots}
 use Rattle.tree_rules.specs.declared.Change.{Change}
@@ -49,6 +49,7 @@ pub record Plan (room countRoom : ℕ) (list : List ℕ) (s s′ : Shape) (chang
   pub new-room : partFrom (s′ .size) part + partLength (s′ .size) part ≤ room
   pub counts-room : part .range * leavesOf (s′ .size) (part .depth) + leavesOf (s′ .size) (part .depth) ≤ countRoom
   pub gathered : nonzero (take (partLength (s .size) part) (drop (partFrom (s .size) part) (laySlots room list s))) ≡ entries
+  pub count : getD (shapeCounts countRoom (countAfter change (length list)) s′) (part .range) 0 ≡ countAfter change (length entries)
   pub counts-total : total (partCounts (s′ .size) part (shapeCounts countRoom (countAfter change (length list)) s′)) ≡ countAfter change (length entries)
   pub counts-fit : Every (λ n. n ≤ leafSlots (s′ .size)) (partCounts (s′ .size) part (shapeCounts countRoom (countAfter change (length list)) s′))
   pub laid :

@@ -19,6 +19,7 @@ use Rattle.tree_rules.specs.ChangeLaws.{rank-itself}
 use Rattle.tree_counts.specs.declared.Part.{Part}
 use Rattle.tree_counts.specs.Ranges.{Perfect}
 use Rattle.tree_counts.specs.Counts.{shapeCounts, Holds}
+use Rattle.tree_counts.specs.CountLaws.{holds-count}
 use Rattle.tree_counts.specs.RangeLaws.{balanced-perfect}
 use Rattle.tree_counts.specs.ShapeCountLaws.{length-shapeCounts, shapeCounts-holds}
 use Rattle.tree_counts.specs.Confined.{Confined}
@@ -215,6 +216,7 @@ module _ (cap : Capacity) (roomy : Roomy cap) (list : List ℕ) (s s′ : Shape)
     new-room = rw (from-whole (s′ .size) (rankOf change), length-whole (s′ .size) (rankOf change)) (omega (arith, new-fits));
     counts-room = rw (leaves-whole (s′ .size)) (omega (arith, counts-fit));
     gathered = rw (from-whole (s .size) (rankOf change), length-whole (s .size) (rankOf change)) whole-gathered;
+    count = holds-count (shapeCounts (cap .counts) N′ s′) 1 N′ (s′ .tree) held;
     counts-total = rw whole-counts (leafCounts-total (s′ .size) (height (s′ .size)) 0 N′ (s′ .tree) (new-range .fits) (new-range .balanced));
     counts-fit = rw whole-counts (leafCounts-fit (s′ .size) (height (s′ .size)) 0 N′ (s′ .tree) (new-range .fits) (new-range .balanced));
     laid = rw (
@@ -368,6 +370,7 @@ module _ (cap : Capacity) (roomy : Roomy cap) (list : List ℕ) (s : Shape) (t�
     new-room = part-room;
     counts-room = rw part-leaves (omega (arith, range-room));
     gathered = within-gathered;
+    count = holds-count counts′ (part .range) m′ (found .tree′) (found .held counts′ (held cap roomy list s s′ change e w reach shape′ few′));
     counts-total = rw within-counts
         (leafCounts-total M (found .inner) (part .depth) m′ (found .tree′) (found .new-range .fits) (found .new-range .balanced));
     counts-fit = rw within-counts

@@ -3,7 +3,7 @@ use tree_counts::Part;
 use tree_rules::Change;
 use tree_sizes::Size;
 ghost use mathlib.Core.Path.{_≡_};
-ghost use Prim.Native.Nat.{_*_, _^_, _<_, _≤_};
+ghost use Prim.Native.Nat.{_+_, _*_, _^_, _<_, _≤_};
 ghost use lib.ListN.{length};
 ghost use Rattle.tree_sizes.specs.Sizes.{height};
 ghost use Rattle.store_part.specs.LayPart.{partEntries, PartReady, EntriesReady, layEntries, layPart, LayReady};
@@ -52,7 +52,7 @@ fn part_length(size: Size, part: Part) -> usize
 }
 
 // Lays the leaves of the part out from the list, by the counts, in a sheet of this size.
-fn lay_entries(slots: &mut [u64], size: Size, part: Part, counts: &[u32], list: &[u64])
+fn lay_entries(slots: &mut [u64], size: Size, part: Part, counts: &[u32], list: &mut [u64])
     requires { ⌜ EntriesReady (size .m) part (now counts) (now list) (now slots) ⌝ }
     ensures { λ _. ⌜ now (slots .exit) ≡ layEntries (size .m) part (now (counts .entry)) (now (list .entry)) (now (slots .entry)) ⌝ }
 {
@@ -61,7 +61,7 @@ fn lay_entries(slots: &mut [u64], size: Size, part: Part, counts: &[u32], list: 
     let leaves = region_leaves(size, depth);
     let first = range * leaves;
     let from = part_from(size, part);
-    store_layout::lay_leaves(slots, from, size.leaf_slots(), counts, first, leaves, list);
+    store_spread::lay_leaves(slots, from, size.leaf_slots(), counts, first, leaves, list);
 }
 
 // Lays out anew the part of a sheet that a change is confined to: its entries are gathered into the list and changed there, the slots that
@@ -77,7 +77,7 @@ pub fn lay_part(
     list: &mut [u64],
 )
     requires ready { ⌜ LayReady (old .m) (new .m) part change (now counts) (now slots) ⌝ }
-    requires room { ⌜ length (partEntries (old .m) part (now slots)) < length (now list) ⌝ }
+    requires room { ⌜ length (partEntries (old .m) part (now slots)) + 1 < length (now list) ⌝ }
     ensures { λ _. ⌜ now (slots .exit) ≡ layPart (old .m) (new .m) part change e (now (counts .entry)) (now (slots .entry)) ⌝ }
 {
     let rank = part.rank;

@@ -1,28 +1,28 @@
 -- Entries read out of slots from left to right: what one slot more leaves.
-use mathlib.Core.Path.{_≡_, sym, _∙_, ap}
-use mathlib.Core.List.{List, _∷_}
-use Prim.Native.Nat.{ℕ, _+_, _<_}
+use mathlib.Core.Path.{_≡_, refl, sym, _∙_, ap, ap₂}
+use mathlib.Core.List.{List, [], _∷_, _++_}
+use Prim.Native.Nat.{ℕ, _+_, _≤_, _<_}
 use native.Mathlib.Numerals.{add-one}
 use native.Mathlib.Omega.{arith}
-use lib.ListN.{length, getD, drop, set, length-drop}
-use lib.Seq.{drop-cons, getD-drop}
+use lib.ListN.{length, getD, take, drop, set, length-drop, length-set, take-append-drop}
+use lib.Seq.{drop-cons, take-suc, take-set-le, take-suc-set, drop-set-lt}
 use Rattle.store_layout.specs.Leaf.{nonzero}
 use Rattle.store_layout.specs.LeafLaws.{nonzero-zero, nonzero-entry, nonzero-length}
-use Rattle.store_slices.specs.Pasted.{Pasted}
-use Rattle.store_slices.specs.PastedLaws.{pasted-next}
+use Rattle.store_slices.specs.Reading.{Reading}
 
 -- ---- the slot i, where the entries behind the first `seen` are those of the slots from i on
 
 -- There is such a slot. If it is empty, the same entries are those of the slots behind it; if not, it holds the entry number `seen`,
 -- and the entries behind that one are those of the slots behind it.
-pub record Slot (slots : List ℕ) (seen i : ℕ) : Type 0 where
+pub record Slot (slots entries : List ℕ) (seen i : ℕ) : Type 0 where
   pub inside : i < length slots
-  pub empty : getD slots i 0 ≡ 0 → drop seen (nonzero slots) ≡ nonzero (drop (i + 1) slots)
-  pub entry : (getD slots i 0 ≡ 0 → ⊥) → getD slots i 0 ≡ getD (nonzero slots) seen 0
-  pub next : (getD slots i 0 ≡ 0 → ⊥) → drop (seen + 1) (nonzero slots) ≡ nonzero (drop (i + 1) slots)
+  pub empty : getD slots i 0 ≡ 0 → drop seen entries ≡ nonzero (drop (i + 1) slots)
+  pub entry : (getD slots i 0 ≡ 0 → ⊥) → getD slots i 0 ≡ getD entries seen 0
+  pub next : (getD slots i 0 ≡ 0 → ⊥) → drop (seen + 1) entries ≡ nonzero (drop (i + 1) slots)
 
-pub slot-read : (slots : List ℕ) (seen i : ℕ) → drop seen (nonzero slots) ≡ nonzero (drop i slots) → seen < length (nonzero slots) → Slot slots seen i
-slot-read slots seen i rest more = record {
+pub slot-read : (slots entries : List ℕ) (seen i : ℕ) → drop seen entries ≡ nonzero (drop i slots) → seen < length entries
+    → Slot slots entries seen i
+slot-read slots entries seen i rest more = record {
   inside = inside;
   empty = λ zero. rest ∙ rw slot (nonzero-zero (getD slots i 0) (drop (i + 1) slots) zero);
   entry = λ full. cc (both full);
@@ -30,20 +30,42 @@ slot-read slots seen i rest more = record {
 }
   where
     inside : i < length slots
-    inside = omega (arith, ap length rest, length-drop seen (nonzero slots), nonzero-length (drop i slots), length-drop i slots)
+    inside = omega (arith, ap length rest, length-drop seen entries, nonzero-length (drop i slots), length-drop i slots)
 
     slot : drop i slots ≡ getD slots i 0 ∷ drop (i + 1) slots
     slot = rw add-one (drop-cons slots i 0 inside)
 
-    both : (getD slots i 0 ≡ 0 → ⊥) → getD (nonzero slots) seen 0 ∷ drop (seen + 1) (nonzero slots) ≡ getD slots i 0 ∷ nonzero (drop (i + 1) slots)
+    both : (getD slots i 0 ≡ 0 → ⊥) → getD entries seen 0 ∷ drop (seen + 1) entries ≡ getD slots i 0 ∷ nonzero (drop (i + 1) slots)
     both full =
-        rw (add-one seen, ← drop-cons (nonzero slots) seen 0 more)
+        rw (add-one seen, ← drop-cons entries seen 0 more)
         (rest ∙ rw slot (nonzero-entry (getD slots i 0) (drop (i + 1) slots) (omega arith)))
 
--- ---- the output, where the entries from the number `first` on are wanted, and `seen` of them are copied
+-- ---- the output
 
-pub wanted-next : {old new : List ℕ} (entries : List ℕ) (first seen : ℕ) → Pasted old 0 (drop first entries) seen new → (x : ℕ)
-    → first + seen < length entries → seen < length old → x ≡ getD entries (first + seen) 0
-    → Pasted old 0 (drop first entries) (seen + 1) (set new seen x)
-wanted-next entries first seen w x more room value =
-    pasted-next w seen x (omega arith) room (omega (arith, length-drop first entries)) (value ∙ sym (getD-drop first entries seen 0))
+pub reading-none : {before wanted : List ℕ} {count n : ℕ} → n ≡ 0 → Reading before wanted count n before
+reading-none none = record { copied = rw none refl; rest = refl; kept = refl }
+
+module _ {before wanted output : List ℕ} {count n : ℕ} where
+  pub reading-all : Reading before wanted count n output → n ≡ count → output ≡ take count wanted ++ drop count before
+  reading-all w all =
+      sym (take-append-drop count output) ∙ ap₂ (λ (xs ys : List ℕ). xs ++ ys) (rw all at (w .copied)) (w .rest)
+
+  module _ (w : Reading before wanted count n output) (x : ℕ) (more : n < count) where
+    -- What is written behind the first n is not one of them.
+    pub reading-same : Reading before wanted count n (set output n x)
+    reading-same = record {
+      copied = take-set-le n output n x (omega arith) ∙ w .copied;
+      rest = drop-set-lt count output n x more ∙ w .rest;
+      kept = length-set output n x ∙ w .kept;
+    }
+
+    -- It is the next one.
+    pub reading-next : count ≤ length before → n < length wanted → x ≡ getD wanted n 0 → Reading before wanted count (n + 1) (set output n x)
+    reading-next room enough value = record {
+      copied =
+          rw (add-one n)
+          (take-suc-set output n x (omega (arith, w .kept))
+          ∙ ap₂ (λ (xs ys : List ℕ). xs ++ ys) (w .copied) (ap (λ (y : ℕ). y ∷ []) value) ∙ sym (take-suc wanted n 0 enough));
+      rest = reading-same .rest;
+      kept = reading-same .kept;
+    }

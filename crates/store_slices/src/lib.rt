@@ -63,13 +63,13 @@ pub fn zero_slots(slots: &mut [u64], from: usize, to: usize)
     }
 }
 
-// The slot behind the first `first` entries: the others stand from it on.
-fn skip_entries(slots: &[u64], first: usize) -> usize
-    requires entries { ⌜ first ≤ length (nonzero (now slots)) ⌝ }
-    ensures { λ r. ⌜ drop first (nonzero (now (slots .entry))) ≡ nonzero (drop r (now (slots .entry))) ⌝ }
+// The slot behind the first `first` entries of those from `start` on: the others stand from it on.
+fn skip_entries(slots: &[u64], start: usize, first: usize) -> usize
+    requires entries { ⌜ first ≤ length (nonzero (drop start (now slots))) ⌝ }
+    ensures { λ r. ⌜ drop first (nonzero (drop start (now (slots .entry)))) ≡ nonzero (drop r (now (slots .entry))) ⌝ }
 {
     let mut seen = 0;
-    let mut at = 0;
+    let mut at = start;
     while seen < first {
         let x = slots[at];
         at += 1;
@@ -80,20 +80,22 @@ fn skip_entries(slots: &[u64], first: usize) -> usize
     at
 }
 
-// Copies `count` of the entries that stand in the slots, from the entry number `first` (from 0) on, to the front of the output.
-pub fn read_out(slots: &[u64], first: usize, count: usize, output: &mut [u64])
-    requires entries { ⌜ first + count ≤ length (nonzero (now slots)) ⌝ }
+// Copies `count` of the entries that stand in the slots from `start` on, from the entry number `first` of these (from 0) on, to the front of
+// the output. Every slot is copied, and what an empty one leaves in the output is overwritten by the next: so the loop has no branch on a
+// slot's contents.
+pub fn read_from(slots: &[u64], start: usize, first: usize, count: usize, output: &mut [u64])
+    requires entries { ⌜ first + count ≤ length (nonzero (drop start (now slots))) ⌝ }
     requires room { ⌜ count ≤ length (now output) ⌝ }
     ensures { λ _. ⌜ now (output .exit)
-        ≡ take count (drop first (nonzero (now (slots .entry)))) ++ drop count (now (output .entry)) ⌝ }
+        ≡ take count (drop first (nonzero (drop start (now (slots .entry))))) ++ drop count (now (output .entry)) ⌝ }
 {
-    let mut at = skip_entries(slots, first);
+    let mut at = skip_entries(slots, start, first);
     let mut seen = 0;
     while seen < count {
         let x = slots[at];
         at += 1;
+        output[seen] = x;
         if x != 0 {
-            output[seen] = x;
             seen += 1;
         }
     }

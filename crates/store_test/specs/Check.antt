@@ -1,22 +1,12 @@
--- The tests by which code checks a store: range by range, leaf by leaf, and that everything unused is zero. Definitions only.
+-- The tests by which code checks a store: its ranges, its leaves, and that everything unused is zero. Definitions only.
 use mathlib.Core.Bool.{Bool, true, _&&_}
-use mathlib.Core.List.{List, [], _∷_}
+use mathlib.Core.List.{List}
 use Prim.Native.Nat.{ℕ, zero, suc, _+_, _-_, _*_, _^_}
 use lib.Dec.{eqb, leb, ltb}
-use lib.ListN.{length, getD, take, drop}
-use Rattle.base.specs.Lists.{equalLists}
-use Rattle.tree_sizes.specs.Sizes.{height, leafSlots, slots, candidates, halfCandidates, windowStart}
-use Rattle.store_layout.specs.Leaf.{spread, nonzero}
+use lib.ListN.{getD, take, drop}
+use Rattle.tree_sizes.specs.Sizes.{ceilDiv, height, leafSlots, slots, candidates, halfCandidates, windowStart}
+use Rattle.store_leaf_test.specs.Check.{leavesTest}
 use Rattle.store_zeros.specs.AllZero.{allZero}
-
--- A leaf of s slots with n entries: they stand where the leaf rule has them, and every other slot is 0.
-unfoldable pub leafTest : ℕ → ℕ → List ℕ → Bool
-leafTest s n leaf = eqb (length (nonzero leaf)) n && equalLists leaf (spread s (nonzero leaf))
-
--- Leaves of s slots one after the other, with these numbers of entries.
-unfoldable pub leavesTest : ℕ → List ℕ → List ℕ → Bool
-leavesTest s [] all = true
-leavesTest s (n ∷ ns) all = leafTest s n (take s all) && leavesTest s ns (drop s all)
 
 -- The range k, which is no leaf and has c candidates: its balance entry is one of them, and the counts of its halves add up to its own.
 unfoldable pub rangeTest : List ℕ → ℕ → ℕ → Bool
@@ -33,13 +23,24 @@ treeTest counts M (suc levels) d k =
     && treeTest counts M levels (suc d) (2 * k)
     && treeTest counts M levels (suc d) (2 * k + 1)
 
--- The same by the number of candidates alone: a half of a range has half as many, rounded up.
-unfoldable pub branchTest : List ℕ → ℕ → ℕ → ℕ → Bool
-branchTest counts c zero k = true
-branchTest counts c (suc levels) k =
-    rangeTest counts c k
-    && branchTest counts (halfCandidates c) levels (2 * k)
-    && branchTest counts (halfCandidates c) levels (2 * k + 1)
+-- The same of the range k by sums alone: nothing is asked of the number of its entries.
+unfoldable pub sumsTest : List ℕ → ℕ → ℕ → Bool
+sumsTest counts c k =
+    let n = getD counts k 0 in
+    let b = getD counts (2 * k) 0 in
+    eqb (b + getD counts (2 * k + 1) 0) n
+    && leb (ceilDiv n 2) (b + halfCandidates c)
+    && ltb (b + halfCandidates c) (ceilDiv n 2 + c)
+
+-- The ranges k, k + 1, .., n in all, with c candidates each.
+unfoldable pub rangesTest : List ℕ → ℕ → ℕ → ℕ → Bool
+rangesTest counts c k zero = true
+rangesTest counts c k (suc n) = sumsTest counts c k && rangesTest counts c (suc k) n
+
+-- The same of so many levels, from these ranges down: the halves of a range have half as many candidates, rounded up.
+unfoldable pub levelsTest : List ℕ → ℕ → ℕ → ℕ → ℕ → Bool
+levelsTest counts c zero k n = true
+levelsTest counts c (suc levels) k n = rangesTest counts c k n && levelsTest counts (halfCandidates c) levels (2 * k) (2 * n)
 
 -- The counts are those of a shape of at most `entries` entries, and 0 at every number that is not in use.
 unfoldable pub countsTest : ℕ → List ℕ → Bool

@@ -1,17 +1,16 @@
 -- The tests that code makes of a store decide whether it is a sheet.
 use mathlib.Core.Path.{_≡_, refl, sym, ap, ap₂, _∙_}
 use mathlib.Core.Bool.{true, _&&_}
-use mathlib.Core.List.{List, [], _∷_, _++_, append-assoc}
-use Prim.Native.Nat.{ℕ, suc, _+_, _-_, _*_, _^_, _≤_, _<_}
+use mathlib.Core.List.{List, _++_}
+use Prim.Native.Nat.{ℕ, _+_, _-_, _*_, _^_, _≤_}
 use lib.Dec.{leb}
-use lib.ListN.{length, getD, take, drop, replicate, length-append, length-drop, take-append-drop}
-use lib.Seq.{length-take-le, take-at, drop-at, take-add}
+use lib.ListN.{length, getD, take, drop, replicate, length-drop, take-append-drop}
+use lib.Seq.{drop-at}
 use native.Mathlib.Nat.{one-mul}
 use native.Mathlib.Omega.{arith}
 use borrow.Author.Tests.{le-leb, leb-true}
 use Rattle.base.specs.Lists.{Every, total}
 use Rattle.base.specs.BoolLaws.{and-both, tests-agree}
-use Rattle.base.specs.ListLaws.{every-take, every-drop}
 use Rattle.tree_sizes.specs.Sizes.{height, leafSlots, slots}
 use Rattle.tree_sizes.specs.Fit.{fit}
 use Rattle.tree_rules.specs.Tree.{Tree, Shape, IsShape}
@@ -19,7 +18,7 @@ use Rattle.tree_counts.specs.Counts.{readTree, shapeCounts, shapeIn, Holds}
 use Rattle.tree_counts.specs.RangeLaws.{balanced-perfect}
 use Rattle.tree_counts.specs.CountLaws.{read-perfect}
 use Rattle.tree_counts.specs.ShapeCountLaws.{length-shapeCounts, shapeCounts-holds, shapeCounts-only, shapeCounts-size, shapeCounts-total, shapeCounts-unused}
-use Rattle.store_layout.specs.Leaf.{spread, nonzero}
+use Rattle.store_layout.specs.Leaf.{nonzero}
 use Rattle.store_layout.specs.declared.Capacity.{Capacity}
 use Rattle.store_order.specs.CountOrder.{countOrder}
 use Rattle.store_layout.specs.Layout.{Store, leafCounts, layLeaves, padTo, laySlots, layCounts, layOut}
@@ -27,55 +26,16 @@ use Rattle.store_layout.specs.Sheet.{IsContents, IsSheet}
 use Rattle.store_layout.specs.Decode.{numbered, sheetTest}
 use Rattle.store_layout.specs.Room.{Roomy}
 use Rattle.store_zeros.specs.AllZero.{allZero}
-use Rattle.store_test.specs.Check.{leafTest, leavesTest, treeTest, countsTest, slotsTest, storeTest}
-use Rattle.store_layout.specs.LeafLaws.{nonzero-positive, length-spread, nonzero-append}
+use Rattle.store_test.specs.Check.{treeTest, countsTest, slotsTest, storeTest}
+use Rattle.store_layout.specs.LeafLaws.{nonzero-positive}
 use Rattle.store_layout.specs.LayoutLaws.{length-leafCounts, holds-leaves, leafCounts-total, leafCounts-fit, length-layLeaves}
 use Rattle.store_order.specs.CountOrderLaws.{countOrder-size}
 use Rattle.store_layout.specs.NumberedLaws.{numbered-given}
 use Rattle.store_layout.specs.SheetLaws.{numbered-layOut, size-layOut, sheet-test, test-sheet}
 use Rattle.store_zeros.specs.ZeroLaws.{zero-behind, zero-behind-test, zero-sound, zero-test}
 use Rattle.store_test.specs.TreeCheck.{tree-sound, tree-test}
-use Rattle.store_test.specs.LeafCheck.{leaf-sound, leaf-test}
-
--- ---- the leaves
-
-pub leaves-sound : (s : ℕ) (ns all : List ℕ) → leavesTest s ns all ≡ true
-    → (total ns ≡ length (nonzero (take (s * length ns) all)))
-    × (take (s * length ns) all ≡ layLeaves s ns (nonzero (take (s * length ns) all)))
-unfolding leavesTest layLeaves total nonzero
-leaves-sound s [] all h = let e : s * 0 ≡ 0 = omega arith in rw e (refl, refl)
-leaves-sound s (n ∷ ns) all h =
-    let e : s * suc (length ns) ≡ s + s * length ns = omega arith in
-    let first : List ℕ = take s all in
-    let rest : List ℕ = take (s * length ns) (drop s all) in
-    let both = and-both (leafTest s n first) _ h in
-    let head = leaf-sound s n first (both .0) in
-    let tail = leaves-sound s ns (drop s all) (both .1) in
-    rw (
-      e,
-      take-add s (s * length ns) all,
-      nonzero-append first rest,
-      length-append (nonzero first) (nonzero rest),
-      take-at (nonzero first) (nonzero rest) n (head .0),
-      drop-at (nonzero first) (nonzero rest) n (head .0),
-    )
-    (omega (arith, head .0, tail .0), ap₂ (λ (xs ys : List ℕ). xs ++ ys) (head .1) (tail .1))
-
-pub leaves-test : (s : ℕ) (ns list rest : List ℕ) → total ns ≡ length list → Every (λ n. n ≤ s) ns → Every (λ e. 0 < e) list
-    → leavesTest s ns (layLeaves s ns list ++ rest) ≡ true
-unfolding leavesTest layLeaves total Every
-leaves-test s [] list rest e fit pos = refl
-leaves-test s (n ∷ ns) list rest e fit pos =
-    let first : List ℕ = spread s (take n list) in
-    let others : List ℕ = layLeaves s ns (drop n list) ++ rest in
-    let number : length (take n list) ≡ n = length-take-le n list (omega arith) in
-    rw (
-      append-assoc first (layLeaves s ns (drop n list)) rest,
-      take-at first others s (length-spread s (take n list)),
-      drop-at first others s (length-spread s (take n list)),
-      rw number at (leaf-test s (take n list) (omega (arith, number, fit .0)) (every-take (λ x. 0 < x) n list pos)),
-      leaves-test s ns (drop n list) rest (omega (arith, length-drop n list)) (fit .1) (every-drop (λ x. 0 < x) n list pos),
-    )
+use Rattle.store_leaf_test.specs.Check.{leavesTest}
+use Rattle.store_leaf_test.specs.LeavesLaws.{leaves-sound, leaves-test}
 
 -- ---- the counts
 

@@ -1,8 +1,7 @@
 -- The tests by which code checks a store: definitions first, then their laws.
 pub mod Ready
 pub mod Check
-pub mod LeafCheck
-pub mod LeavesCheck
 pub mod TreeCheck
+pub mod LevelCheck
 pub mod CheckLaws
 pub mod StoreCheck

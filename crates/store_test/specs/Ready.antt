@@ -1,36 +1,14 @@
 -- What the tests ask of their arguments. Definitions only.
-use mathlib.Core.Path.{_≡_}
 use mathlib.Core.List.{List}
-use Prim.Native.Nat.{ℕ, _+_, _*_, _^_, _≤_, _<_}
+use Prim.Native.Nat.{ℕ, _*_, _^_, _≤_, _<_}
 use lib.ListN.{length, getD, take, drop}
 use Rattle.base.specs.Lists.{Every}
-use Rattle.tree_sizes.specs.Sizes.{Allowed, height, leafSlots, slots, candidates, Fits}
+use Rattle.tree_sizes.specs.Sizes.{Allowed, height, leafSlots, slots, Fits}
 
--- A leaf of s slots from `from` on, with n entries.
-pub record LeafTestReady (slots : List ℕ) (from s n : ℕ) : Type 0 where
-  pub slots-room : from + s ≤ length slots
-  pub fit : n ≤ s
-  pub small : s < 2 ^ 32
-
--- Leaves of s slots, with the numbers of entries that stand in the counts from `first` on.
-pub record LeavesTestReady (slots : List ℕ) (s : ℕ) (counts : List ℕ) (first leaves : ℕ) : Type 0 where
-  pub slots-room : s * leaves ≤ length slots
-  pub counts-room : first + leaves ≤ length counts
-  pub fit : Every (λ n. n ≤ s) (take leaves (drop first counts))
-  pub small : s < 2 ^ 32
-
--- The range k, which is no leaf and has c candidates.
-pub record RangeTestReady (counts : List ℕ) (c k : ℕ) : Type 0 where
-  pub halves : 2 * k + 1 < length counts
-  pub count : c ≤ getD counts k 0
-
--- The range k with c candidates, `levels` above the leaves, and the ranges below it, in a sheet of some size at some depth.
-pub record BranchTestReady (counts : List ℕ) (c levels k : ℕ) : Type 0 where
-  pub size : ℕ
-  pub depth : ℕ
-  pub c-is : c ≡ candidates size depth
-  pub room : (k + 1) * 2 ^ levels ≤ length counts
-  pub fits : Fits size levels depth (getD counts k 0)
+-- The ranges of a level, from `first` on, with c candidates each.
+pub record LevelTestReady (counts : List ℕ) (c first : ℕ) : Type 0 where
+  pub room : 4 * first ≤ length counts
+  pub small : c < 2 ^ 32
 
 -- The root of a sheet of size M, h above the leaves, and the ranges below it.
 pub record TreeTestReady (counts : List ℕ) (M h : ℕ) : Type 0 where

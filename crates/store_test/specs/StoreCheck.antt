@@ -19,9 +19,11 @@ use Rattle.store_layout.specs.declared.Capacity.{Capacity}
 use Rattle.store_order.specs.CountOrder.{countOrder}
 use Rattle.store_layout.specs.Decode.{sheetTest}
 use Rattle.store_layout.specs.Room.{CapacityReady}
-use Rattle.store_test.specs.Ready.{LeavesTestReady, TreeTestReady, CountsTestReady, SlotsTestReady}
+use Rattle.store_leaf_test.specs.Ready.{LeavesTestReady}
+use Rattle.store_leaf_test.specs.Check.{leavesTest}
+use Rattle.store_test.specs.Ready.{TreeTestReady, CountsTestReady, SlotsTestReady}
 use Rattle.store_zeros.specs.AllZero.{allZero}
-use Rattle.store_test.specs.Check.{leavesTest, treeTest, countsTest, slotsTest, storeTest}
+use Rattle.store_test.specs.Check.{treeTest, countsTest, slotsTest, storeTest}
 use Rattle.store_test.specs.CheckLaws.{counts-sound, held-fit, store-test}
 
 -- ---- the counts

@@ -1,114 +1,39 @@
-// The test whether a store is a sheet: the counts range by range, the slots leaf by leaf, and that everything unused is zero.
+// The test whether a store is a sheet: its counts, its leaves, and that everything unused is zero.
 ghost use mathlib.Core.Path.{_≡_};
-ghost use Prim.Native.Nat.{_+_, _-_, _*_, _^_, _≤_, _<_};
-ghost use lib.ListN.{length, getD, take, drop};
-ghost use Rattle.store_layout.specs.Leaf.{nonzero};
+ghost use Prim.Native.Nat.{_+_, _-_, _*_, _^_, _<_};
+ghost use lib.ListN.{length, getD};
 ghost use Rattle.store_layout.specs.Decode.{sheetTest};
 ghost use Rattle.store_layout.specs.Room.{CapacityReady};
 ghost use Rattle.store_order.specs.CountOrder.{countOrder};
 ghost use Rattle.tree_sizes.specs.Sizes.{height};
-ghost use Rattle.store_test.specs.Ready.{LeafTestReady, LeavesTestReady, RangeTestReady, BranchTestReady, TreeTestReady, CountsTestReady, SlotsTestReady};
-ghost use Rattle.store_test.specs.Check.{leafTest, leavesTest, rangeTest, branchTest, treeTest, countsTest, slotsTest};
+ghost use Rattle.store_test.specs.Ready.{LevelTestReady, TreeTestReady, CountsTestReady, SlotsTestReady};
+ghost use Rattle.store_test.specs.Check.{rangesTest, treeTest, countsTest, slotsTest};
 use store_layout::Capacity;
 use store_layout::count_at;
 use tree_sizes::Size;
-use tree_sizes::window_start;
 
-// The number of entries in `len` slots from `from` on.
-fn entries_in(slots: &[u64], from: usize, len: usize) -> usize
-    requires room { ⌜ from + len ≤ length (now slots) ⌝ }
-    ensures { λ r. ⌜ r ≡ length (nonzero (take len (drop from (now (slots .entry))))) ⌝ }
+// The ranges from `first` on, as many as the number `first`, each with c candidates: those of a level. The balance entry of each is a
+// candidate, and the counts of its halves add up to its own. All are looked at, without a branch for each.
+fn level_is_balanced(counts: &[u32], c: usize, first: usize) -> bool
+    requires { ⌜ LevelTestReady (now counts) c first ⌝ }
+    ensures { λ r. ⌜ r ≡ rangesTest (now (counts .entry)) c first first ⌝ }
 {
-    let mut n: usize = 0;
+    let half = Size::half_candidates(c);
+    let mut all = true;
     let mut i: usize = 0;
-    while i < len {
-        let content = slots[from + i];
+    while i < first {
+        let k = first + i;
+        let n = count_at(counts, k);
+        let b = count_at(counts, 2 * k);
+        let right = count_at(counts, 2 * k + 1);
+        let middle = n - n / 2;
+        all = all & (b + right == n) & (middle <= b + half) & (b + half < middle + c);
         i += 1;
-        if content != 0 {
-            n += 1;
-        }
     }
-    n
+    all
 }
 
-// The s slots from `from` on hold n entries at the places of the leaf rule, and 0 in every other slot: there are n entries, and no place is
-// empty. The division stands before the count, so that the machine does both at once.
-fn leaf_is_spread(slots: &[u64], from: usize, s: usize, n: usize) -> bool
-    requires { ⌜ LeafTestReady (now slots) from s n ⌝ }
-    ensures { λ r. ⌜ r ≡ leafTest s n (take s (drop from (now (slots .entry)))) ⌝ }
-{
-    let step = store_layout::position_step(s, n);
-    let mut position = store_layout::first_position(s, n, step);
-    if entries_in(slots, from, s) != n {
-        return false;
-    }
-    let mut k: usize = 0;
-    while k < n {
-        let slot = position.whole;
-        if slots[from + slot] == 0 {
-            return false;
-        }
-        position = position.plus(step, 2 * n);
-        k += 1;
-    }
-    true
-}
-
-// Leaves of s slots one after the other, from the first slot on: their numbers of entries stand in the counts from `first` on.
-fn leaves_are_spread(slots: &[u64], s: usize, counts: &[u32], first: usize, leaves: usize) -> bool
-    requires { ⌜ LeavesTestReady (now slots) s (now counts) first leaves ⌝ }
-    ensures { λ r. ⌜ r ≡ leavesTest s (take leaves (drop first (now (counts .entry)))) (now (slots .entry)) ⌝ }
-{
-    let mut j: usize = 0;
-    let mut from: usize = 0;
-    while j < leaves {
-        let n = count_at(counts, first + j);
-        if !leaf_is_spread(slots, from, s, n) {
-            return false;
-        }
-        from += s;
-        j += 1;
-    }
-    true
-}
-
-// The range k, which is no leaf and has c candidates: its balance entry is one of them, and the counts of its halves add up to its own.
-fn range_is_balanced(c: usize, k: usize, counts: &[u32]) -> bool
-    requires { ⌜ RangeTestReady (now counts) c k ⌝ }
-    ensures { λ r. ⌜ r ≡ rangeTest (now (counts .entry)) c k ⌝ }
-{
-    let n = count_at(counts, k);
-    let b = count_at(counts, 2 * k);
-    let start = window_start(n, c);
-    if b < start {
-        return false;
-    }
-    if start + c <= b {
-        return false;
-    }
-    let right = count_at(counts, 2 * k + 1);
-    right == n - b
-}
-
-// The range k with c candidates, `levels` above the leaves, and the ranges below it: a half has half as many candidates, rounded up.
-fn branch_is_balanced(c: usize, levels: usize, k: usize, counts: &[u32]) -> bool
-    requires { ⌜ BranchTestReady (now counts) c levels k ⌝ }
-    ensures { λ r. ⌜ r ≡ branchTest (now (counts .entry)) c levels k ⌝ }
-{
-    if levels == 0 {
-        return true;
-    }
-    if !range_is_balanced(c, k, counts) {
-        return false;
-    }
-    let below = Size::half_candidates(c);
-    if !branch_is_balanced(below, levels - 1, 2 * k, counts) {
-        return false;
-    }
-    branch_is_balanced(below, levels - 1, 2 * k + 1, counts)
-}
-
-// The ranges of a sheet of size m, h above the leaves at its root.
+// The ranges of a sheet of size m, h above the leaves at its root, level by level: a half has half as many candidates, rounded up.
 fn tree_is_balanced(m: usize, h: usize, counts: &[u32]) -> bool
     requires { ⌜ TreeTestReady (now counts) m h ⌝ }
     ensures { λ r. ⌜ r ≡ treeTest (now (counts .entry)) m h 0 1 ⌝ }
@@ -117,8 +42,18 @@ fn tree_is_balanced(m: usize, h: usize, counts: &[u32]) -> bool
         return true;
     }
     let size = Size { m: m };
-    let c = size.candidates(0);
-    branch_is_balanced(c, h, 1, counts)
+    let mut c = size.candidates(0);
+    let mut all = true;
+    let mut first: usize = 1;
+    let mut levels = h;
+    while 0 < levels {
+        let level = level_is_balanced(counts, c, first);
+        all = all & level;
+        c = Size::half_candidates(c);
+        first = 2 * first;
+        levels -= 1;
+    }
+    all
 }
 
 // The greatest size parameter that n entries can have.
@@ -166,7 +101,7 @@ fn slots_are_laid(slots: &[u64], counts: &[u32]) -> bool
     let s = size.leaf_slots();
     let h = size.height();
     let leaves = tree_sizes::power(h);
-    if !leaves_are_spread(slots, s, counts, leaves, leaves) {
+    if !store_leaf_test::leaves_are_spread(slots, s, counts, leaves, leaves) {
         return false;
     }
     store_zeros::slots_are_zero(slots, s * leaves)

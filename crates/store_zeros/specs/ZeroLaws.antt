@@ -11,7 +11,7 @@ use native.Mathlib.Nat.{suc-add, zero-add}
 use native.Mathlib.Numerals.{add-one}
 use native.Mathlib.Omega.{arith}
 use borrow.Author.Tests.{eq-eqb, eqb-true}
-use Rattle.base.specs.BoolLaws.{and-true-left, and-true-right, and-both, tests-agree}
+use Rattle.base.specs.BoolLaws.{and-true-left, and-true-right, and-both, and-assoc, and-true, tests-agree}
 use Rattle.base.specs.ListLaws.{replicate-at}
 use Rattle.store_zeros.specs.AllZero.{allZero}
 
@@ -33,14 +33,6 @@ zero-all [] h = refl
 zero-all (x ∷ xs) h = rw (eq-eqb x 0 (h 0), zero-all xs (λ i. h (suc i)))
 
 -- ---- numbers joined bit by bit
-
-and-assoc : (a b c : Bool) → ((a && b) && c) ≡ (a && (b && c))
-and-assoc true b c = refl
-and-assoc false b c = refl
-
-and-true : (a : Bool) → (a && true) ≡ a
-and-true true = refl
-and-true false = refl
 
 -- The bits of two numbers joined are 0 exactly where both numbers are.
 joined-zero : (a b : ℕ) → eqb (bitOr a b) 0 ≡ (eqb a 0 && eqb b 0)

@@ -16,8 +16,8 @@ use Rattle.draw.specs.DrawLaws.{draw-sound}
 use Rattle.draw_shares.specs.Program.{draw}
 use Rattle.draw_shares.specs.Tape.{Ran, ran, ended, runAt, afterRun}
 use Rattle.draw_shares.specs.TapeLaws.{run-face, run-ended, run-bind}
-use Rattle.tree_sizes.specs.Sizes.{candidates, windowStart, IsCandidate}
-use Rattle.tree_sizes.specs.SizeLaws.{height-small, height-most, candidate-face, candidate-below}
+use Rattle.tree_sizes.specs.Sizes.{candidates, halfCandidates, windowStart, IsCandidate}
+use Rattle.tree_sizes.specs.SizeLaws.{height-small, height-most, candidates-half, candidate-face, candidate-below}
 use Rattle.tree_sizes.specs.Fit.{fits-count, fits-halves}
 use Rattle.tree_rules.specs.Tree.{Tree, node}
 use Rattle.tree_rules.specs.Rules.{rebuild, rebuildHalves, join}
@@ -89,6 +89,10 @@ one-more levels above = omega arith
 
 pub above-leaves : {M levels d k n room : ℕ} → levels ≢ 0 → RebuildReady M levels d k n room → RebuildReady M (suc (levels - 1)) d k n room
 above-leaves {M} {levels} {d} {k} {n} {room} above p = subst (λ (x : ℕ). RebuildReady M x d k n room) (one-more levels above) p
+
+-- The halves have half as many candidates.
+pub half-count : (M d : ℕ) {c half : ℕ} → c ≡ candidates M d → half ≡ halfCandidates c → half ≡ candidates M (d + 1)
+half-count M d e h = h ∙ rw (e, add-one d) (sym (candidates-half M d))
 
 -- The values that the code has once a face is drawn: c candidates from w on, and the place of the next word.
 pub record Chosen (M d n : ℕ) (tape : List ℕ) (at c w face next : ℕ) : Type 0 where
@@ -181,6 +185,14 @@ module _ (M levels d n : ℕ) (tape : List ℕ) (at : ℕ) where
     unfolding RebuiltAs
     draw-ended c k counts c₁ ec e =
         rw (run-node M levels d n tape at above, run-ended (candidates M d) _ tape at (rw ec at e)) refl
+
+-- Halves that are leaves.
+pub halves-leaves : (M levels d k n b : ℕ) (tape : List ℕ) (at : ℕ) (counts : List ℕ) → levels ≡ 0
+    → RebuiltAs (runAt (rebuildHalves M levels d n b) tape at) (Done at) k n counts (set (set (set counts k n) (2 * k) b) (2 * k + 1) (n - b))
+halves-leaves M levels d k n b tape at counts e =
+    halves-done M levels d k n b tape at counts (Done at) (Done at) at _ _
+    (leaf-done M levels (d + 1) b tape at (2 * k) (set counts k n) e) refl
+    (leaf-done M levels (d + 1) (n - b) tape at (2 * k + 1) (set (set counts k n) (2 * k) b) e)
 
 -- ---- all counts zero
 

@@ -1,5 +1,6 @@
 // The counts of a tree of balance ranks, and a range of it rebuilt; a change of its entries, and the part that the change is confined to.
 ghost use mathlib.Core.Path.{_≡_};
+ghost use mathlib.Core.Logic.{_≢_};
 ghost use Prim.Native.Nat.{suc, _^_, _<_};
 ghost use lib.ListN.{length, set, replicate};
 ghost use Rattle.draw_shares.specs.Tape.{runAt};
@@ -55,8 +56,52 @@ pub enum Rebuilt {
     Ended,
 }
 
-// Rebuilds the range k at `depth`, `levels` above the leaves, for n entries: its balance entry is drawn, then its left half and then its
-// right half are rebuilt in the same way.
+// Rebuilds the range k at `depth`, which has c candidates and is `levels` above the leaves, for n entries: its balance entry is drawn, then
+// its left half and then its right half, which have half as many candidates, are rebuilt in the same way. Halves that are leaves are written
+// at once.
+fn rebuild_above(
+    c: usize,
+    size: Size,
+    levels: usize,
+    depth: usize,
+    k: usize,
+    n: usize,
+    counts: &mut [u32],
+    tape: &[u32],
+    at: usize,
+) -> Rebuilt
+    requires count { ⌜ c ≡ candidates (size .m) depth ⌝ }
+    requires above { ⌜ levels ≢ 0 ⌝ }
+    requires ready { ⌜ RebuildReady (size .m) levels depth k n (length (now counts)) ⌝ }
+    ensures { λ r. ⌜ RebuiltAs (runAt (rules.rebuild (size .m) levels depth n) (now (tape .entry)) at) r k n (now (counts .entry)) (now (counts .exit)) ⌝ }
+{
+    counts[k] = n as u32;
+    match draw::draw(tape, at, c) {
+        Drawn::Face { face, next } => {
+            let b = tree_sizes::window_start(n, c) + face;
+            let rest = n - b;
+            let left = 2 * k;
+            let right = left + 1;
+            let lower = levels - 1;
+            if lower == 0 {
+                counts[left] = b as u32;
+                counts[right] = rest as u32;
+                return Rebuilt::Done(next);
+            }
+            let below = depth + 1;
+            let half = Size::half_candidates(c);
+            match rebuild_above(half, size, lower, below, left, b, counts, tape, next) {
+                Rebuilt::Done(mid) => {
+                    rebuild_above(half, size, lower, below, right, rest, counts, tape, mid)
+                }
+                Rebuilt::Ended => Rebuilt::Ended,
+            }
+        }
+        Drawn::Ended => Rebuilt::Ended,
+    }
+}
+
+// Rebuilds the range k at `depth`, `levels` above the leaves, for n entries, and the ranges below it.
 pub fn rebuild(
     size: Size,
     levels: usize,
@@ -70,26 +115,12 @@ pub fn rebuild(
     requires { ⌜ RebuildReady (size .m) levels depth k n (length (now counts)) ⌝ }
     ensures { λ r. ⌜ RebuiltAs (runAt (rules.rebuild (size .m) levels depth n) (now (tape .entry)) at) r k n (now (counts .entry)) (now (counts .exit)) ⌝ }
 {
-    counts[k] = n as u32;
     if levels == 0 {
+        counts[k] = n as u32;
         return Rebuilt::Done(at);
     }
     let c = size.candidates(depth);
-    match draw::draw(tape, at, c) {
-        Drawn::Face { face, next } => {
-            let b = tree_sizes::window_start(n, c) + face;
-            let rest = n - b;
-            let left = 2 * k;
-            let right = left + 1;
-            let lower = levels - 1;
-            let below = depth + 1;
-            match rebuild(size, lower, below, left, b, counts, tape, next) {
-                Rebuilt::Done(mid) => rebuild(size, lower, below, right, rest, counts, tape, mid),
-                Rebuilt::Ended => Rebuilt::Ended,
-            }
-        }
-        Drawn::Ended => Rebuilt::Ended,
-    }
+    rebuild_above(c, size, levels, depth, k, n, counts, tape, at)
 }
 
 // Makes b the balance rank of the range k of n entries at `depth`, and rebuilds its left half and then its right half, which are `levels`

@@ -22,6 +22,10 @@ use Rattle.tree_walk.specs.declared.Stop.{Stop}
 
 -- ---- one range
 
+-- The number c of candidates of a range at depth d, where the size has ranges above the leaves.
+abbrev pub CountedAt : ℕ → ℕ → ℕ → Type 0
+CountedAt M d c = 1 < M → c ≡ candidates M d
+
 -- A range above the leaves whose numbers are small enough to count on, and a balance rank in it.
 pub record HalveReady (range : Range) (b : ℕ) : Type 0 where
   pub above : 0 < range .levels

@@ -10,8 +10,8 @@ use Rattle.base.specs.CaseLaws.{lt-or-ge, by-lt, ifLt-yes, ifLt-no}
 use Rattle.draw_shares.specs.Program.{done}
 use Rattle.draw_shares.specs.Tape.{Ran, ran, ended, runAt, afterRun}
 use Rattle.draw_shares.specs.TapeLaws.{run-bind, run-ends}
-use Rattle.tree_sizes.specs.Sizes.{height, candidates, IsCandidate}
-use Rattle.tree_sizes.specs.SizeLaws.{candidate-below}
+use Rattle.tree_sizes.specs.Sizes.{height, candidates, halfCandidates, IsCandidate}
+use Rattle.tree_sizes.specs.SizeLaws.{candidates-half, candidate-below}
 use Rattle.tree_sizes.specs.Fit.{fit, fits-pos, fits-count, fits-halves}
 use Rattle.tree_rules.specs.declared.Change.{Change}
 use Rattle.tree_rules.specs.Tree.{Tree, leaf, node, Balanced, Shape, IsShape}
@@ -40,7 +40,7 @@ use Rattle.tree_walk.specs.declared.Range.{Range}
 use Rattle.tree_walk.specs.declared.Stop.{Stop}
 use Rattle.tree_walk.specs.declared.Updated.{Updated}
 use Rattle.tree_walk.specs.Updated.{rebuiltTo, UpdatedAs}
-use Rattle.tree_walk.specs.Walk.{halfOf, partOf, entriesAfter, WalkReady, walkRun, Walking, stopRun, EntersCandidate, StopReady, Stopped}
+use Rattle.tree_walk.specs.Walk.{CountedAt, halfOf, partOf, entriesAfter, WalkReady, walkRun, Walking, stopRun, EntersCandidate, StopReady, Stopped}
 
 -- ---- the run at a range above the leaves
 
@@ -441,3 +441,14 @@ pub half-lower : (range half : Range) (b : ℕ) → range .levels ≢ 0 → half
 unfolding halfOf
 half-lower range half b above e =
     rw e (by-lt (λ (r : Range). r .levels < range .levels) b (rankOf (range .change)) _ _ (λ h. omega arith) (λ h. omega arith))
+
+half-deeper : (range half : Range) (b : ℕ) → half ≡ halfOf range b → half .depth ≡ suc (range .depth)
+unfolding halfOf
+half-deeper range half b e =
+    rw e (by-lt (λ (r : Range). r .depth ≡ suc (range .depth)) b (rankOf (range .change)) _ _ (λ h. omega arith) (λ h. omega arith))
+
+-- The half where the walk goes on has half as many candidates.
+pub half-counted : (M : ℕ) (range half : Range) (b c : ℕ) {c′ : ℕ} → half ≡ halfOf range b → c′ ≡ halfCandidates c → CountedAt M (range .depth) c
+    → CountedAt M (half .depth) c′
+half-counted M range half b c e h counted large =
+    h ∙ ap halfCandidates (counted large) ∙ sym (candidates-half M (range .depth)) ∙ sym (ap (candidates M) (half-deeper range half b e))

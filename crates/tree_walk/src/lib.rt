@@ -7,7 +7,7 @@ ghost use Rattle.tree_rules.specs.Rules as rules;
 ghost use Rattle.tree_counts.specs.Counts.{shapeIn};
 ghost use Rattle.tree_counts.specs.Rebuild.{RebuiltAs};
 ghost use Rattle.tree_walk.specs.Updated.{rebuiltTo, UpdatedAs};
-ghost use Rattle.tree_walk.specs.Walk.{entriesAfter, partOf, HalveReady, halfOf, WalkReady, stopRun, StopReady, Stopped};
+ghost use Rattle.tree_walk.specs.Walk.{CountedAt, entriesAfter, partOf, HalveReady, halfOf, WalkReady, stopRun, StopReady, Stopped};
 use tree_counts::Part;
 use tree_counts::Rebuilt;
 use tree_counts::rebuild;
@@ -105,6 +105,17 @@ struct Stop {
     visited: Visited,
 }
 
+// The number of candidates of the root, where it is no leaf.
+fn root_candidates(size: Size) -> usize
+    requires most { ⌜ size .m < 2 ^ 32 ⌝ }
+    ensures { λ r. ⌜ CountedAt (size .m) 0 r ⌝ }
+{
+    if size.m <= 1 {
+        return 0;
+    }
+    size.candidates(0)
+}
+
 // Goes down from the root to the range where the walk stops, and changes the counts of the ranges passed on the way.
 fn descend(
     change: Change,
@@ -125,6 +136,7 @@ fn descend(
         change: change,
     };
     let mut at = start;
+    let mut c = root_candidates(size);
     loop {
         if range.levels == 0 {
             let visited = Visited::Pass { next: at };
@@ -133,13 +145,14 @@ fn descend(
         let k = range.k;
         let b = counts[2 * k] as usize;
         let here = range.change;
-        let visited = visit(here, range.n, size.candidates(range.depth), b, tape, at);
+        let visited = visit(here, range.n, c, b, tape, at);
         match visited {
             Visited::Pass { next } => at = next,
             _ => break Stop { range, visited },
         }
         counts[k] = range.after() as u32;
         range = range.half(b);
+        c = Size::half_candidates(c);
     }
 }
 

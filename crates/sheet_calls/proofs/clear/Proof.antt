@@ -1,7 +1,7 @@
 -- `clear` meets its contract.
 use Rattle.call_open.specs.OpeningLaws.{slots-wrong, counts-wrong}
 use Rattle.sheet_calls.specs.ClearLaws.{clear-wrong, clear-done}
-use Rattle.sheet_calls.specs.ClubsReady.{clubs-outcome}
+use Rattle.sheet_calls.specs.AtClubs.{clubs-outcome}
 use borrow.Author.Needs.{needs}
 use Rattle.sheet_calls.proofs.clear.Statement.{statement}
 use Rattle.sheet_calls.proofs.clear.Tie as tie

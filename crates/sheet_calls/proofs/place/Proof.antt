@@ -4,7 +4,8 @@ use native.Mathlib.Omega.{arith}
 use Rattle.call_outcomes.specs.Plain.{placeOf}
 use Rattle.call_open.specs.AdmittedLaws.{call-admitted, call-refused}
 use Rattle.sheet_calls.specs.CallLaws.{place-small, place-done}
-use Rattle.sheet_calls.specs.ClubsReady.{clubs-ready, clubs-question}
+use Rattle.sheet_change.specs.ClubsReady.{clubs-ready}
+use Rattle.sheet_calls.specs.AtClubs.{clubs-question}
 use borrow.Author.Needs.{needs}
 use Rattle.sheet_calls.proofs.place.Statement.{statement}
 use Rattle.sheet_calls.proofs.place.Tie as tie
@@ -16,9 +17,7 @@ slice-aggregate-examine : tie.Need-slice-aggregate-examine
 slice-aggregate-examine c = search needs
 
 examine-requires : tie.Need-examine-requires
-examine-requires c κs =
-    let is = c .before .capacity .ensures in
-    (clubs-ready is, rw is refl)
+examine-requires c κs = rw (c .before .capacity .ensures) (clubs-ready, refl)
 
 admit-rank-requires : tie.Need-admit-rank-requires
 admit-rank-requires c κs = search needs

@@ -4,7 +4,7 @@ use native.Mathlib.Omega.{arith}
 use borrow.Author.Needs.{needs}
 use Rattle.store_part.specs.Plan.{partLength, partCounts}
 use Rattle.store_part.specs.LayPart.{layEntries}
-use Rattle.store_part.specs.LayPartLaws.{leaves-ready}
+use Rattle.store_part.specs.LayPartLaws.{leaves-ready, part-list-room}
 use Rattle.store_part.proofs.lay_entries.Statement.{statement}
 use Rattle.store_part.proofs.lay_entries.Tie as tie
 
@@ -22,21 +22,27 @@ leaf-slots-requires c κs = search needs
 
 lay-leaves-requires : tie.Need-lay-leaves-requires
 lay-leaves-requires c κs =
-    let st = c .before .before .before .before .before .before .before in
-    let a = st .args in
-    rw (c .before .before .part-from .ensures, c .leaf-slots .ensures, c .before .before .before .region-leaves .ensures)
-    (leaves-ready (a .size .m) (a .part) _ _ _ (st .pre))
+    let p = c .before .before .before in
+    let st = p .before .before .before .before .before in
+    let a = st .args in (
+      rw (p .part-from .ensures, c .before .leaf-slots .ensures, p .before .region-leaves .ensures)
+          (leaves-ready (a .size .m) (a .part) _ _ _ (st .pre)),
+      rw (p .before .region-leaves .ensures) (part-list-room (st .pre)),
+    )
 
 same-length : tie.Need-same-length
 same-length c = search needs
 
+same-length-2 : tie.Need-same-length-2
+same-length-2 c = search needs
+
 returns : tie.Need-returns
 unfolding layEntries partLength partCounts
 returns c =
-    let d = c .before .before in
-    let r = d .before in
-    d .lay-leaves .ensures
-    ∙ rw (r .before .before .part-from .ensures, r .leaf-slots .ensures, r .before .before .before .region-leaves .ensures)
+    let d = c .before .before .before .before in
+    let r = d .before .before in
+    let p = r .before .before in
+    d .lay-leaves .ensures ∙ rw (p .part-from .ensures, r .leaf-slots .ensures, p .before .region-leaves .ensures)
 
 pub lay-entries-spec : {M : Type 1} → statement M
 lay-entries-spec =
@@ -48,4 +54,5 @@ lay-entries-spec =
     leaf-slots-requires
     lay-leaves-requires
     same-length
+    same-length-2
     returns)

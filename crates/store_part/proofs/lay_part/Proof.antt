@@ -65,7 +65,7 @@ same-length-2 c = search needs
 
 returns : tie.Need-returns
 returns c =
-    let l = c .before .before in
+    let l = c .before .before .before .before in
     let z = l .before .before .before .before .before in
     let p = z .before .before .before in
     let k = p .before .before .before .before in

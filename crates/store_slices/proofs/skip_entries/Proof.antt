@@ -1,4 +1,5 @@
--- `skip_entries` meets its contract. The loop's invariant: the entries behind the first `seen` are those of the slots from `at` on.
+-- `skip_entries` meets its contract. The loop's invariant: of the entries from `start` on, those behind the first `seen` are those of the slots
+-- from `at` on.
 use mathlib.Core.Path.{_≡_, refl, ap, _∙_}
 use Prim.Native.Nat.{ℕ, _-_, _≤_}
 use native.Mathlib.Omega.{arith}
@@ -11,15 +12,19 @@ use Rattle.store_slices.proofs.skip_entries.Statement.{statement}
 use Rattle.store_slices.proofs.skip_entries.Tie as tie
 
 abbrev Inv-loop : tie.InvT-loop
-Inv-loop slots first seen₀ at₀ seen at = (seen ≤ first) × (drop seen (nonzero slots) ≡ nonzero (drop at slots))
+Inv-loop slots start first seen₀ at₀ seen at = (seen ≤ first) × (drop seen (nonzero (drop start slots)) ≡ nonzero (drop at slots))
 
 abbrev μ-loop : tie.MeasureT-loop
-μ-loop slots first seen₀ at₀ seen at = length slots - at
+μ-loop slots start first seen₀ at₀ seen at = length slots - at
 
 -- The slot that a turn reads.
-slot : (c : tie.In-loop Inv-loop μ-loop) → Slot (now (c .before .before .args .slots)) (c .before .loop .seen) (c .before .loop .at)
+slot : (c : tie.In-loop Inv-loop μ-loop)
+    → let a = c .before .before .args in
+    Slot (now (a .slots)) (nonzero (drop (a .start) (now (a .slots)))) (c .before .loop .seen) (c .before .loop .at)
 slot c =
-    let h = c .before .loop in slot-read (now (c .before .before .args .slots)) (h .seen) (h .at) (h .inv .1) (omega arith)
+    let h = c .before .loop in
+    let a = c .before .before .args in
+    slot-read (now (a .slots)) (nonzero (drop (a .start) (now (a .slots)))) (h .seen) (h .at) (h .inv .1) (omega arith)
 
 loop-holds : tie.Need-loop-holds Inv-loop μ-loop
 loop-holds c = (omega arith, refl)
@@ -51,8 +56,9 @@ loop-again-2 c = (omega arith, slot (c .before .before) .empty (c .if1 .left))
 returns : tie.Need-returns Inv-loop μ-loop
 returns c =
     let l = c .before in
-    let all : l .before .args .first ≡ l .loop .seen = omega arith in
-    ap (λ (x : ℕ). drop x (nonzero (now (l .before .args .slots)))) all ∙ l .loop .inv .1
+    let a = l .before .args in
+    let all : a .first ≡ l .loop .seen = omega arith in
+    ap (λ (x : ℕ). drop x (nonzero (drop (a .start) (now (a .slots))))) all ∙ l .loop .inv .1
 
 pub skip-entries-spec : {M : Type 1} → statement M
 skip-entries-spec =

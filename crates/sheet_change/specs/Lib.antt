@@ -1,0 +1,2 @@
+-- A change of the clubs' sheet.
+pub mod ClubsReady

@@ -1,0 +1,92 @@
+// A change of the clubs' sheet that no cause before 7 refuses, carried out.
+ghost use mathlib.Core.Path.{_≡_};
+ghost use mathlib.Core.List.{[]};
+ghost use Prim.Native.Nat.{_<_, _≤_};
+ghost use lib.ListN.{length, getD};
+ghost use Rattle.call_outcomes.specs.Outcome.{outcome};
+ghost use Rattle.call_outcomes.specs.Plain.{plain, changing, storeOf, outcomeOf};
+ghost use Rattle.call_outcomes.specs.Clubs.{clubs};
+ghost use Rattle.call_change.specs.SheetChange.{ChangeReady, entriesBefore, WriteReady, written};
+use call_change::DrawnChange;
+use call_outcomes::Answer;
+use call_outcomes::Cause;
+use tree_rules::Change;
+use tree_walk::Updated;
+
+// Writes a drawn change whose part has at most 128 entries after it: 131 entries are room enough in the list.
+fn write_by_short_list(slots: &mut [u64], counts: &mut [u16], work: &[u32], drawn: DrawnChange)
+    requires ready { ⌜ WriteReady drawn (storeOf (now slots) (now counts)) (now work) ⌝ }
+    requires few { ⌜ getD (now work) (drawn .part .range) 0 ≤ 128 ⌝ }
+    ensures { λ _. ⌜ storeOf (now (slots .exit)) (now (counts .exit))
+        ≡ written drawn (now (work .entry)) (storeOf (now (slots .entry)) (now (counts .entry))) ⌝ }
+{
+    let mut list = [0u64; 131];
+    call_change::write_change(slots, counts, work, &mut list, drawn);
+}
+
+// Writes any drawn change of a sheet: the list has room for the entries of a full one.
+fn write_by_long_list(slots: &mut [u64], counts: &mut [u16], work: &[u32], drawn: DrawnChange)
+    requires ready { ⌜ WriteReady drawn (storeOf (now slots) (now counts)) (now work) ⌝ }
+    requires most { ⌜ length (entriesBefore drawn (now slots)) ≤ 1024 ⌝ }
+    ensures { λ _. ⌜ storeOf (now (slots .exit)) (now (counts .exit))
+        ≡ written drawn (now (work .entry)) (storeOf (now (slots .entry)) (now (counts .entry))) ⌝ }
+{
+    let mut list = [0u64; 1026];
+    call_change::write_change(slots, counts, work, &mut list, drawn);
+}
+
+// Writes a drawn change. The long list takes more time to make than a leaf to lay out, so it is made only where the part needs it.
+fn write_drawn(slots: &mut [u64], counts: &mut [u16], work: &[u32], drawn: DrawnChange)
+    requires ready { ⌜ WriteReady drawn (storeOf (now slots) (now counts)) (now work) ⌝ }
+    requires most { ⌜ length (entriesBefore drawn (now slots)) ≤ 1024 ⌝ }
+    ensures { λ _. ⌜ storeOf (now (slots .exit)) (now (counts .exit))
+        ≡ written drawn (now (work .entry)) (storeOf (now (slots .entry)) (now (counts .entry))) ⌝ }
+{
+    let part = drawn.part;
+    let range = part.range;
+    if store_layout::count_at(work, range) <= 128 {
+        write_by_short_list(slots, counts, work, drawn);
+    } else {
+        write_by_long_list(slots, counts, work, drawn);
+    }
+}
+
+// Carries out the change of a sheet of n entries with the size parameter m, whose counts the work array has by range number. Everything is
+// drawn in the work array; the slices are written only after that.
+pub fn change(
+    slots: &mut [u64],
+    counts: &mut [u16],
+    work: &mut [u32],
+    n: usize,
+    m: usize,
+    change: Change,
+    entry: u64,
+    tape: &[u32],
+) -> Answer
+    requires { ⌜ ChangeReady clubs change entry n m (storeOf (now slots) (now counts)) (now work) ⌝ }
+    ensures { λ r. ⌜ outcomeOf r (now (slots .exit)) (now (counts .exit)) []
+        ≡ outcome (plain clubs) (changing change entry) (now (tape .entry)) (storeOf (now (slots .entry)) (now (counts .entry))) [] ⌝ }
+{
+    let after = tree_counts::count_after(change, n);
+    match tree_update::update(change, n, m, work, tape) {
+        Updated::Done {
+            m: size,
+            part,
+            next,
+        } => {
+            let drawn = DrawnChange {
+                old: m,
+                new: size,
+                part: part,
+                change: change,
+                entry: entry,
+            };
+            write_drawn(slots, counts, work, drawn);
+            Answer::Changed {
+                n: after,
+                words: next,
+            }
+        }
+        Updated::Ended => Answer::Refused(Cause::TapeEnded),
+    }
+}

@@ -1,0 +1,15 @@
+-- `entries_of_30` meets its contract: the entries of the slots are computed by the rule, and are the table.
+use mathlib.Core.Path.{refl}
+use Rattle.base.specs.Lists.{tabulate}
+use Rattle.store_order.specs.TreeOrder.{each}
+use Rattle.store_layout.specs.Leaf.{slotOf, putEntries}
+use Rattle.store_spread.specs.SlotEntries.{slotEntries, entryTable}
+use Rattle.store_spread.proofs.table.entries_of_30.Statement.{statement}
+use Rattle.store_spread.proofs.table.entries_of_30.Tie as tie
+
+returns : tie.Need-returns
+unfolding entryTable each slotEntries tabulate putEntries slotOf
+returns c = refl
+
+pub entries-of-30-spec : {M : Type 1} → statement M
+entries-of-30-spec = tie.close (tie.spec returns)
