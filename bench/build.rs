@@ -1,5 +1,5 @@
-//! Links the archive that `bench/run` makes of that of `rt staticlib sheet_c`,
-//! and the C side, which gcc compiles here for any x86-64.
+//! Links the archives that `bench/run` makes of those of `rt staticlib sheet_c`
+//! and `timed_c`, and the C side, which gcc compiles here for any x86-64.
 
 use std::env;
 use std::path::Path;
@@ -30,7 +30,9 @@ fn main() {
     let here = Path::new(&here);
     let archive = here.join("../target/bench");
     println!("cargo:rustc-link-search=native={}", archive.display());
-    println!("cargo:rustc-link-lib=static=sheet_c");
-    println!("cargo:rerun-if-changed={}", archive.join("libsheet_c.a").display());
+    for name in ["sheet_c", "timed_c"] {
+        println!("cargo:rustc-link-lib=static={name}");
+        println!("cargo:rerun-if-changed={}", archive.join(format!("lib{name}.a")).display());
+    }
     compile(&here.join("src/c_side.c"), &here.join("../include"), "c_side");
 }

@@ -1,5 +1,6 @@
 /* The measured calls in C11 for any x86-64, written for speed for the store of 4,224 slots and 256 counts. c_check takes and returns what
- * sheet_check of include/sheet.h does, and so on. Nothing here is proved: the benchmark compares answers and stores with the other sides.
+ * sheet_check of include/sheet.h does, c_timed_check what timed_check of include/timed.h does, and so on. Nothing here is proved: the
+ * benchmark compares answers and stores with the other sides.
  *
  * Most of the work of a call is the test whether the store is a sheet. It has no branch for a slot or a count: faults are joined by "or",
  * and looked at once for the counts and once for the slots. Tables say where entries and counts stand; the first call makes them, so no
@@ -8,7 +9,7 @@
  * Where the counts are those of a sheet, no leaf has more entries than slots, and of several leaves none is empty (document 01 asks that
  * this be shown): so the slots are looked at after the counts, and the tables have a row for every leaf that comes.
  */
-#include "sheet.h"
+#include "timed.h"
 
 #include <stdbool.h>
 #include <string.h>
@@ -664,4 +665,145 @@ size_t c_delete(uint64_t *slots, size_t slots_len, uint16_t *counts, size_t coun
     if (cause != 0)
         return answered(answer, cause, 0, 0);
     return change(slots, counts, &size, false, rank, 0, tape, tape_len, answer);
+}
+
+/* Where the words of the third slice come from: balance[k] for range k is the first entry of the leaf that its right half begins with. From
+ * level to level these leaves are twice as near to each other, so that k rises by one from leaf to leaf. */
+#define EACH_RANGE(k, leaf, leaves)                                                \
+    for (unsigned step = (leaves) / 2, k = 1; step > 0; step /= 2)                 \
+        for (unsigned leaf = step; leaf < (leaves); leaf += 2 * step, k++)
+
+/* Puts the first entry of each leaf into `firsts`; whether some entry is not above the one before it. */
+static bool falls(const uint64_t *slots, const uint16_t *counts, const struct size *size, uint64_t *firsts)
+{
+    unsigned leaves = 1u << size->height;
+    const uint8_t *at = size->places + leaves;
+    bool fall = false;
+    uint64_t last = 0;
+    for (unsigned leaf = 0; leaf < leaves; leaf++, slots += size->leaf) {
+        unsigned n = counts[at[leaf]];
+        const uint8_t *slot = spread_of(size->leaf, n)->slot;
+        firsts[leaf] = slots[slot[0]];
+        for (unsigned i = 0; i < n; i++) {
+            fall |= slots[slot[i]] <= last;
+            last = slots[slot[i]];
+        }
+    }
+    return fall;
+}
+
+/* The causes 1, 2 and 11, or 0 and what M gives. */
+static size_t open_timed(const uint64_t *slots, size_t slots_len, const uint16_t *counts, size_t counts_len, const uint64_t *balance,
+                         size_t balance_len, struct size *size)
+{
+    uint64_t firsts[1 << HIGHEST], faults;
+    if (balance_len != TIMED_BALANCE)
+        return SHEET_LENGTHS;
+    size_t cause = open(slots, slots_len, counts, counts_len, size);
+    if (cause != 0)
+        return cause;
+    unsigned leaves = 1u << size->height;
+    faults = falls(slots, counts, size, firsts) | balance[0];
+    EACH_RANGE(k, leaf, leaves)
+        faults |= balance[k] ^ firsts[leaf];
+    for (unsigned k = leaves; k < TIMED_BALANCE; k++)
+        faults |= balance[k];
+    return faults == 0 ? SHEET_ACCEPTED : TIMED_NOT_TIMED;
+}
+
+/* Writes the third slice of the sheet that a change has left. */
+static void write_balance(const uint64_t *slots, const uint16_t *counts, uint64_t *balance)
+{
+    struct size size = size_of(counts[0]);
+    unsigned leaves = 1u << size.height;
+    const uint8_t *at = size.places + leaves;
+    EACH_RANGE(k, leaf, leaves)
+        balance[k] = slots[leaf * size.leaf + spread_of(size.leaf, counts[at[leaf]])->slot[0]];
+    memset(balance + leaves, 0, (TIMED_BALANCE - leaves) * sizeof *balance);
+}
+
+/* The number of entries below this one, and whether it is there. */
+static size_t search(const uint64_t *slots, const uint16_t *counts, const uint64_t *balance, const struct size *size, uint64_t entry,
+                     bool *there)
+{
+    unsigned k = 1, leaves = 1u << size->height;
+    size_t before = 0;
+    while (k < leaves) {
+        bool right = balance[k] <= entry;
+        before += right ? counts[size->places[2 * k]] : 0;
+        k = 2 * k + right;
+    }
+    unsigned n = counts[size->places[k]], i = 0;
+    const uint64_t *leaf = slots + (k - leaves) * size->leaf;
+    const uint8_t *slot = spread_of(size->leaf, n)->slot;
+    while (i < n && leaf[slot[i]] < entry)
+        i++;
+    *there = i < n && leaf[slot[i]] == entry;
+    return before + i;
+}
+
+size_t c_timed_check(const uint64_t *slots, size_t slots_len, const uint16_t *counts, size_t counts_len, const uint64_t *balance,
+                     size_t balance_len, uint64_t *answer, size_t answer_len)
+{
+    struct size size;
+    if (answer_len < 2)
+        return SHEET_ANSWER_SHORT;
+    size_t cause = open_timed(slots, slots_len, counts, counts_len, balance, balance_len, &size);
+    return answered(answer, cause, cause == 0 ? counts[1] : 0, 0);
+}
+
+size_t c_timed_find(const uint64_t *slots, size_t slots_len, const uint16_t *counts, size_t counts_len, const uint64_t *balance,
+                    size_t balance_len, uint64_t entry, uint64_t *answer, size_t answer_len)
+{
+    struct size size;
+    bool there = false;
+    size_t rank = 0;
+    if (answer_len < 2)
+        return SHEET_ANSWER_SHORT;
+    size_t cause = open_timed(slots, slots_len, counts, counts_len, balance, balance_len, &size);
+    if (cause == 0 && entry == 0)
+        cause = SHEET_ENTRY_ZERO;
+    if (cause == 0)
+        rank = search(slots, counts, balance, &size, entry, &there);
+    return answered(answer, cause, there, rank);
+}
+
+size_t c_timed_insert(uint64_t *slots, size_t slots_len, uint16_t *counts, size_t counts_len, uint64_t *balance, size_t balance_len,
+                      uint64_t entry, const uint32_t *tape, size_t tape_len, uint64_t *answer, size_t answer_len)
+{
+    struct size size;
+    bool there = false;
+    size_t rank = 0;
+    if (answer_len < 2)
+        return SHEET_ANSWER_SHORT;
+    size_t cause = open_timed(slots, slots_len, counts, counts_len, balance, balance_len, &size);
+    if (cause == 0 && entry == 0)
+        cause = SHEET_ENTRY_ZERO;
+    if (cause == 0)
+        rank = search(slots, counts, balance, &size, entry, &there);
+    if (cause == 0)
+        cause = there ? TIMED_PRESENT : counts[1] == SHEET_ENTRIES ? SHEET_FULL : 0;
+    if (cause != 0)
+        return answered(answer, cause, 0, 0);
+    cause = change(slots, counts, &size, true, rank, entry, tape, tape_len, answer);
+    if (cause == 0)
+        write_balance(slots, counts, balance);
+    return cause;
+}
+
+size_t c_timed_delete(uint64_t *slots, size_t slots_len, uint16_t *counts, size_t counts_len, uint64_t *balance, size_t balance_len,
+                      size_t rank, const uint32_t *tape, size_t tape_len, uint64_t *answer, size_t answer_len)
+{
+    struct size size;
+    if (answer_len < 2)
+        return SHEET_ANSWER_SHORT;
+    size_t cause = open_timed(slots, slots_len, counts, counts_len, balance, balance_len, &size);
+    if (cause == 0 && rank >= counts[1])
+        cause = SHEET_RANK;
+    if (cause != 0)
+        return answered(answer, cause, 0, 0);
+    cause = change(slots, counts, &size, false, rank, 0, tape, tape_len, answer);
+    if (cause == 0)
+        write_balance(slots, counts, balance);
+    return cause;
 }

@@ -1,5 +1,6 @@
 //! One table: what each call costs in the proved library, in C and in Rust,
-//! beside a bare scan of the store's bytes.
+//! beside a bare scan of the store's bytes; then the calls on timed sheets, in
+//! the proved library and in C.
 //!
 //! Every row is measured many times, the sides in turn and on equal stores with
 //! equal arguments and tapes. A row shows the median of each side. The ratio is
@@ -14,6 +15,7 @@
 mod compare;
 mod plain;
 mod sides;
+mod timed_sheets;
 mod tree_order;
 
 use reference::random::SplitMix64;
@@ -74,7 +76,7 @@ fn build<S: Side>(store: &mut Store, arguments: &[Arguments]) {
 }
 
 /// What the calls of one measurement took, in nanoseconds for one call.
-fn timed(calls: usize, run: impl FnOnce()) -> f64 {
+fn time_of(calls: usize, run: impl FnOnce()) -> f64 {
     let start = Instant::now();
     run();
     start.elapsed().as_nanos() as f64 / calls as f64
@@ -108,12 +110,12 @@ fn measure<S: Side>(n: usize, stores: &mut [Store], arguments: &[Arguments]) -> 
     let mut times = Times::default();
     for round in arguments.chunks_exact(2 * stores.len()) {
         let (inserts, deletes) = round.split_at(stores.len());
-        times.insert += timed(calls, || {
+        times.insert += time_of(calls, || {
             for (store, a) in stores.iter_mut().zip(inserts) {
                 accepted(S::insert(store, a.rank(n + 1), a.entry, &a.words));
             }
         });
-        times.delete += timed(calls, || {
+        times.delete += time_of(calls, || {
             for (store, a) in stores.iter_mut().zip(deletes) {
                 accepted(S::delete(store, a.rank(n + 1), &a.words));
             }
@@ -122,21 +124,21 @@ fn measure<S: Side>(n: usize, stores: &mut [Store], arguments: &[Arguments]) -> 
     let count = n.min(64);
     let mut output = [0; 64];
     let rounds = || arguments.chunks_exact(2 * stores.len());
-    times.check = timed(calls, || {
+    times.check = time_of(calls, || {
         for _ in rounds() {
             for store in &*stores {
                 accepted(S::check(black_box(store)));
             }
         }
     });
-    times.place = timed(calls, || {
+    times.place = time_of(calls, || {
         for round in rounds() {
             for (store, a) in stores.iter().zip(round) {
                 accepted(S::place(black_box(store), a.rank(n)));
             }
         }
     });
-    times.read = timed(calls, || {
+    times.read = time_of(calls, || {
         for round in rounds() {
             for (store, a) in stores.iter().zip(round) {
                 let first = a.rank(n - count + 1);
@@ -159,7 +161,7 @@ fn scan(store: &Store) -> u64 {
 }
 
 fn scan_time(stores: &[Store]) -> f64 {
-    timed(stores.len() * ROUNDS, || {
+    time_of(stores.len() * ROUNDS, || {
         for _ in 0..ROUNDS {
             for store in stores {
                 black_box(scan(black_box(store)));
@@ -179,11 +181,11 @@ fn median(values: &[f64]) -> f64 {
     quantile(values, 0.5)
 }
 
-/// The times of one row, of the three sides in turn.
+/// The times of one row, of the sides in turn. Timed sheets have no side in Rust.
 struct Taken {
     proved: Vec<f64>,
     c: Vec<f64>,
-    plain: Vec<f64>,
+    plain: Option<Vec<f64>>,
 }
 
 /// Whether a row is within the bound of the fastest side, and within that of its goal.
@@ -203,10 +205,10 @@ impl Within {
 
 const ALL_WITHIN: Within = Within { side: true, goal: true };
 
-/// Prints one row. The row of building has no goal.
+/// Prints one row. The rows of building and of timed sheets have no goal.
 fn row(kind: &str, n: &str, taken: &Taken, scan: f64, goal: Option<f64>) -> Within {
     let Taken { proved, c, plain } = taken;
-    let fastest = if median(plain) < median(c) { plain } else { c };
+    let fastest = plain.as_ref().filter(|plain| median(plain) < median(c)).unwrap_or(c);
     let ratios: Vec<f64> = proved.iter().zip(fastest).map(|(p, f)| p / f).collect();
     let ratio = median(&ratios);
     let scans = median(proved) / scan;
@@ -215,10 +217,10 @@ fn row(kind: &str, n: &str, taken: &Taken, scan: f64, goal: Option<f64>) -> With
         goal: goal.map_or(true, |goal| scans <= BOUND * goal),
     };
     println!(
-        "| {kind:8} | {n:>9} | {:>8.0} | {:>8.0} | {:>8.0} | {ratio:>5.2} | {:>4.2} to {:>4.2} | {scan:>6.0} | {scans:>5.2} | {:>4} |{}{}",
+        "| {kind:12} | {n:>9} | {:>8.0} | {:>8.0} | {:>8} | {ratio:>5.2} | {:>4.2} to {:>4.2} | {scan:>6.0} | {scans:>5.2} | {:>4} |{}{}",
         median(proved),
         median(c),
-        median(plain),
+        plain.as_ref().map_or("none".to_string(), |plain| format!("{:.0}", median(plain))),
         quantile(&ratios, 0.1),
         quantile(&ratios, 0.9),
         goal.map_or(String::new(), |goal| format!("{goal:.1}")),
@@ -254,8 +256,8 @@ fn rows_at(at: usize, times: usize, random: &mut SplitMix64, all_scans: &mut Vec
     let scan = median(&scans);
     all_scans.append(&mut scans);
     KINDS.iter().fold(ALL_WITHIN, |within, (kind, time, goals)| {
-        let [proved, c, plain] = [0, 1, 2].map(|side: usize| taken[side].iter().map(time).collect());
-        within.and(row(kind, &n.to_string(), &Taken { proved, c, plain }, scan, Some(goals[at])))
+        let [proved, c, plain] = [0, 1, 2].map(|side: usize| taken[side].iter().map(time).collect::<Vec<f64>>());
+        within.and(row(kind, &n.to_string(), &Taken { proved, c, plain: Some(plain) }, scan, Some(goals[at])))
     })
 }
 
@@ -268,13 +270,13 @@ fn row_of_building(times: usize, random: &mut SplitMix64) -> Within {
         let arguments = Arguments::list(random, BUILT);
         let mut stores: Stores = vec![Store::empty(); 3];
         for side in (0..3).map(|side| (side + turn) % 3) {
-            taken[side].push(timed(BUILT, || builds[side](&mut stores[side], &arguments)));
+            taken[side].push(time_of(BUILT, || builds[side](&mut stores[side], &arguments)));
         }
         assert!(stores[0] == stores[1] && stores[0] == stores[2], "all sides leave the same stores");
         scans.push(scan_time(&stores));
     }
     let [proved, c, plain] = taken;
-    row("build", "0 to 1000", &Taken { proved, c, plain }, median(&scans), None)
+    row("build", "0 to 1000", &Taken { proved, c, plain: Some(plain) }, median(&scans), None)
 }
 
 fn said(within: bool) -> &'static str {
@@ -291,15 +293,21 @@ fn main() -> ExitCode {
     compare::with_reference();
     println!("ns per call, medians of {times} measurements of {} calls, same seeds and tapes on all sides", STORES * ROUNDS);
     println!();
-    println!("| call     |         N |   proved |        C |    plain | ratio | middle 4/5   |   scan | /scan | goal |");
-    println!("|----------|-----------|----------|----------|----------|-------|--------------|--------|-------|------|");
+    println!("| call         |         N |   proved |        C |    plain | ratio | middle 4/5   |   scan | /scan | goal |");
+    println!("|--------------|-----------|----------|----------|----------|-------|--------------|--------|-------|------|");
     let mut within = ALL_WITHIN;
-    let mut scans = Vec::new();
+    let (mut scans, mut above) = (Vec::new(), Vec::new());
     for at in 0..LENGTHS.len() {
         within = within.and(rows_at(at, times, &mut random, &mut scans));
     }
     within = within.and(row_of_building(times, &mut random));
+    for n in LENGTHS {
+        let (rows, find) = timed_sheets::rows(n, times, &mut random);
+        within = within.and(rows);
+        above.push(format!("{find:.0} at N = {n}"));
+    }
     println!();
+    println!("a timed find of the proved library costs above a timed check, in ns: {}", above.join(", "));
     println!(
         "noise: the same scan took {:.0} ns in the middle, {:.0} to {:.0} ns in the middle four fifths of its measurements",
         median(&scans),

@@ -133,7 +133,7 @@ side_in_c!(C, c_check, c_place, c_read, c_insert, c_delete);
 /// compared with it.
 pub struct Reference;
 
-fn returned(answer: Answer) -> Returned {
+pub fn returned(answer: Answer) -> Returned {
     let [first, second] = answer.values();
     [answer.number() as u64, first as u64, second as u64]
 }

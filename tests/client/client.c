@@ -1,56 +1,18 @@
 /* A small display program: enters boats, strikes one out, and prints place, points and sail number of each; then a full sheet; then a store
  * whose counts stand in number order; then the kinds of some lines, and what frames are answered by on a cleared sheet. */
-#include "coins.h"
 #include "frames.h"
 #include "sheet.h"
+#include "tape.h"
 
 #include <inttypes.h>
 #include <stdio.h>
-#include <stdlib.h>
 #include <string.h>
-
-/* How many words are drawn at once: the sheet does not depend on it. */
-#ifndef WORDS_AT_ONCE
-#define WORDS_AT_ONCE 16
-#endif
-#define TAPE_ROOM 1024
 
 static uint64_t slots[SHEET_SLOTS];
 static uint16_t counts[SHEET_COUNTS];
 static uint64_t answer[2];
 static uint32_t frame_words[FRAME_TAPE_WORDS];
 static uint8_t answers[FRAME_OUTPUT];
-
-/* The tape: words that were drawn and that no call has read. */
-static uint32_t tape[TAPE_ROOM];
-static size_t waiting;
-static unsigned long words_drawn, words_read;
-
-/* Stops the program where a call was refused. */
-static void accepted(const char *call, size_t number) {
-    if (number != SHEET_ACCEPTED) {
-        fprintf(stderr, "%s: refused, cause %zu\n", call, number);
-        exit(1);
-    }
-}
-
-/* Puts fresh words behind those that wait. These stay: the call that they did not suffice for has to read them again. */
-static void extend_tape(void) {
-    if (TAPE_ROOM - waiting < WORDS_AT_ONCE) {
-        fprintf(stderr, "no room for more words\n");
-        exit(1);
-    }
-    fresh_words(tape + waiting, WORDS_AT_ONCE);
-    waiting += WORDS_AT_ONCE;
-    words_drawn += WORDS_AT_ONCE;
-}
-
-/* Drops the words that an accepted call has read, so that none is used again. */
-static void drop_words(size_t number) {
-    memmove(tape, tape + number, (waiting - number) * sizeof tape[0]);
-    waiting -= number;
-    words_read += number;
-}
 
 static void insert(size_t rank, uint64_t entry) {
     size_t number;

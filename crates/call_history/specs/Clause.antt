@@ -5,7 +5,6 @@ use mathlib.Core.List.{List, _∷_}
 use lib.ListN.{length}
 use Rattle.draw_shares.specs.Fraction.{_≐_, unit}
 use Rattle.draw_shares.specs.Course.{Follows, share}
-use Rattle.draw_shares.specs.CourseLaws.{follows-unique}
 use Rattle.tree_rules.specs.Tree.{Shape, IsShape}
 use Rattle.tree_canonical.specs.ShapeShare.{shapeProduct}
 use Rattle.store_layout.specs.Layout.{Store, layOut}
@@ -14,7 +13,7 @@ use Rattle.call_outcomes.specs.PlainLaws.{lengths-right}
 use Rattle.call_outcomes.specs.Clubs.{clubs}
 use Rattle.call_outcomes.specs.ClubsLaws.{clubs-lawful}
 use Rattle.call_history.specs.History.{history, listAtEnd, SameTable, Sent, clearing, lastStore, NoneEnds, facesSent, callsOf}
-use Rattle.call_history.specs.Words.{words-decide}
+use Rattle.call_history.specs.Words.{words-of}
 use Rattle.call_history.specs.Independence.{history-independent}
 use Rattle.call_history.specs.Shares.{sheet-share}
 
@@ -31,10 +30,7 @@ clause calls calls′ store store′ right right′ =
 pub words : (sent : List (Sent Call)) (store : Store) → NoneEnds (plain clubs) (clearing (plain clubs) ∷ sent) store → (final : Store)
     → Follows (history (plain clubs) (callsOf sent) store) (facesSent (plain clubs) (clearing (plain clubs) ∷ sent) store) final
     ↔ (final ≡ lastStore (plain clubs) (clearing (plain clubs) ∷ sent) store)
-unfolding history callsOf clearing
-words sent store none final =
-    let course = words-decide (plain clubs) (clearing (plain clubs) ∷ sent) store none in
-    (λ other. follows-unique _ _ final _ other course, λ e. rw e course)
+words = words-of (plain clubs)
 
 -- Each sheet of the list at the end has the share 1 / N times 1 / c for each range above the leaves.
 pub sheet-shares : (calls : List Call) (store : Store) → RightLengths clubs store → (s : Shape) → IsShape (length (listAtEnd (plain clubs) calls)) s

@@ -8,6 +8,7 @@ pub mod TapeRunsLaws
 pub mod CallKeeps
 pub mod NextSheet
 pub mod Refusals
+pub mod SingleCalls
 pub mod Independence
 pub mod Shares
 pub mod Supply

@@ -1,6 +1,6 @@
 -- Coins can be supplied: for every course of a history there are tapes such that no call returns 7 and the words decide this very course.
 use mathlib.Core.Path.{_≡_, refl, sym, ap, ap₂, _∙_}
-use mathlib.Core.Bool.{true}
+use mathlib.Core.Bool.{Bool, true, false}
 use mathlib.Core.Logic.{_≢_}
 use mathlib.Core.List.{List, [], _∷_, _++_}
 use mathlib.Core.Option.{Option, some, none}
@@ -21,8 +21,9 @@ use Rattle.tree_rules.specs.DrawBounds.{update-draws}
 use Rattle.call_outcomes.specs.declared.Cause.{Cause}
 use Rattle.call_outcomes.specs.declared.Cause.the-variants.{TapeEnded}
 use Rattle.call_outcomes.specs.declared.Answer.the-variants.{Cleared, Refused}
+use Rattle.call_outcomes.specs.Returns.{causeNumber}
 use Rattle.call_outcomes.specs.Kind.{SheetOf, empty, Edit, clear, change, ask, Kind, Lawful, CallFor, StoreFor}
-use Rattle.call_outcomes.specs.Causes.{Decision, refuse, accept, byLengths, lookedAt, argumentCause, byArguments, decision}
+use Rattle.call_outcomes.specs.Causes.{firstOf, Decision, refuse, accept, byLengths, lookedAt, argumentCause, byArguments, decision}
 use Rattle.call_outcomes.specs.Outcome.{edited, effect, answerOf, refused, finished, outcomeBy, outcome, callProgramBy, callProgram}
 use Rattle.call_history.specs.History.{runCalls, history, nextList, refusalOf, SentTo, clearing, storeAfter, lastStore, NoneEnds, facesSent, callsOf}
 use Rattle.call_history.specs.CallKeeps.{empty-sheets, sheets-end, programOn, sheet-program, sheet-refusal}
@@ -34,6 +35,15 @@ pub record Suppliable (kind : Kind) : Type 0 where
   pub few : (list : List ℕ) → kind .view .IsList list → 2 * length list + 2 ≤ 2 ^ 32
   pub no-cause : (call : CallFor kind) (list : List ℕ) → argumentCause kind call list ≢ some TapeEnded
   pub no-reply : (q : kind .calls .Question) (list : List ℕ) → kind .calls .reply q list ≢ Refused TapeEnded
+
+-- A cause other than 7 decides, or none of the later ones is 7.
+pub first-other : (test : Bool) (cause : Cause) (later : Option Cause) → causeNumber cause ≢ 7 → later ≢ some TapeEnded → firstOf test cause later ≢ some TapeEnded
+unfolding firstOf
+first-other true cause later other there e = let same : cause ≡ TapeEnded = cc in other (ap causeNumber same)
+first-other false cause later other there e = there e
+
+pub none-ended : _≢_ {A = Option Cause} none (some TapeEnded)
+none-ended e = let z : _≡_ {A = ℕ} 0 1 = cc in omega arith
 
 -- Tapes for the calls, from a store on: none returns 7, their words decide these faces, and the last store is this one.
 pub record Supplied (kind : Kind) (calls : List (CallFor kind)) (store : StoreFor kind) (faces : List ℕ) (v : StoreFor kind) : Type 0 where

@@ -1,19 +1,19 @@
 -- Whatever words the tapes hold, if no call returns 7, the calls leave the store at the end of the course whose faces those words decide.
 use mathlib.Core.Path.{_≡_, refl}
-use mathlib.Core.Logic.{_≢_}
+use mathlib.Core.Logic.{_≢_, _↔_}
 use mathlib.Core.List.{List, [], _∷_}
 use Prim.Native.Nat.{ℕ}
 use Rattle.draw_shares.specs.Program.{Program}
 use Rattle.draw_shares.specs.Tape.{Ran, ran, ended, runAt, facesOn}
 use Rattle.draw_shares.specs.TapeLaws.{run-done, run-follows}
 use Rattle.draw_shares.specs.Course.{Follows}
-use Rattle.draw_shares.specs.CourseLaws.{follows-bind}
+use Rattle.draw_shares.specs.CourseLaws.{follows-bind, follows-unique}
 use Rattle.call_outcomes.specs.declared.Cause.the-variants.{TapeEnded}
 use Rattle.call_outcomes.specs.declared.Answer.the-variants.{Refused}
 use Rattle.call_outcomes.specs.Kind.{Kind, CallFor, StoreFor}
 use Rattle.call_outcomes.specs.Causes.{Decision, refuse, accept, decision}
 use Rattle.call_outcomes.specs.Outcome.{refused, finished, effect, outcomeBy, outcome, callProgramBy, callProgram}
-use Rattle.call_history.specs.History.{runCalls, SentTo, storeAfter, lastStore, NoneEnds, facesSent, callsOf}
+use Rattle.call_history.specs.History.{runCalls, history, SentTo, clearing, storeAfter, lastStore, NoneEnds, facesSent, callsOf}
 
 module _ (kind : Kind) where
   -- One call: its program run on its tape ends with the store of its outcome, unless it returns 7.
@@ -50,3 +50,12 @@ module _ (kind : Kind) where
       follows-bind (callProgram kind (s .call) store) (runCalls kind (callsOf rest)) _ _ _ _
       (call-follows (s .call) (s .tape) store (s .output) (ne .0))
       (words-decide rest (storeAfter kind s store) (ne .1))
+
+-- So for a history: its course with those faces ends with that store, and with no other.
+pub words-of : (kind : Kind) (sent : List (SentTo kind)) (store : StoreFor kind) → NoneEnds kind (clearing kind ∷ sent) store → (final : StoreFor kind)
+    → Follows (history kind (callsOf sent) store) (facesSent kind (clearing kind ∷ sent) store) final
+    ↔ (final ≡ lastStore kind (clearing kind ∷ sent) store)
+unfolding history callsOf clearing
+words-of kind sent store none final =
+    let course = words-decide kind (clearing kind ∷ sent) store none in
+    (λ other. follows-unique _ _ final _ other course, λ e. rw e course)

@@ -6,10 +6,11 @@ use Prim.Native.Nat.{ℕ}
 use lib.ListN.{length}
 use Rattle.store_layout.specs.declared.Capacity.{Capacity}
 use Rattle.store_layout.specs.Layout.{Store}
-use Rattle.store_layout.specs.Decode.{Contents, numbered}
+use Rattle.store_layout.specs.Decode.{Contents, decode, numbered}
 use Rattle.call_outcomes.specs.declared.Cause.{Cause}
+use Rattle.call_outcomes.specs.Kind.{Kind, CallFor, StoreFor}
 use Rattle.call_outcomes.specs.Causes.{Decision, refuse, accept, storeDecision, decision}
-use Rattle.call_outcomes.specs.Plain.{plainView, plain, Call}
+use Rattle.call_outcomes.specs.Plain.{plainView}
 use Rattle.call_open.specs.declared.Opened.{Opened}
 use Rattle.call_open.specs.declared.Opened.the-variants as opened
 
@@ -32,9 +33,18 @@ unfoldable pub admitted : (ℕ → Option Cause) → Opened → Opened
 admitted causes (opened.Sheet n m) = admittedBy (causes n) n m
 admitted causes (opened.Refused cause) = opened.Refused cause
 
--- The call goes on with a sheet of n entries and the size parameter m.
-pub record Admitted (cap : Capacity) (call : Call) (store : Store) (n m : ℕ) : Type 0 where
+-- The call, of any kind of sheet, goes on with a sheet of n entries and the size parameter m.
+pub record Admitted (kind : Kind) (call : CallFor kind) (store : StoreFor kind) (n m : ℕ) : Type 0 where
   pub contents : Contents
-  pub decided : decision (plain cap) call store ≡ accept contents
+  pub decided : decision kind call store ≡ accept contents
   pub count : length (contents .list) ≡ n
   pub size : contents .shape .size ≡ m
+
+-- The store is a plain sheet of n entries with the size parameter m, and the work array has its counts by range number.
+pub record OpenedSheet (cap : Capacity) (store : Store) (n m : ℕ) (work : List ℕ) : Type 0 where
+  pub contents : Contents
+  pub decided : storeDecision (plainView cap) store ≡ accept contents
+  pub decoded : decode cap store ≡ some contents
+  pub count : length (contents .list) ≡ n
+  pub size : contents .shape .size ≡ m
+  pub copied : work ≡ numbered store

@@ -20,7 +20,9 @@ use Rattle.call_outcomes.specs.Outcome.{effect, answerOf, refused, finis
 pub cause-bounds : (c : Cause) → (0 < causeNumber c) × (causeNumber c < 2 ^ 8)
 cause-bounds cause.Lengths = (omega arith, omega arith)
 cause-bounds cause.NotASheet = (omega arith, omega arith)
+cause-bounds cause.NotTimed = (omega arith, omega arith)
 cause-bounds cause.EntryZero = (omega arith, omega arith)
+cause-bounds cause.EntryPresent = (omega arith, omega arith)
 cause-bounds cause.Rank = (omega arith, omega arith)
 cause-bounds cause.Full = (omega arith, omega arith)
 cause-bounds cause.OutputShort = (omega arith, omega arith)
@@ -35,6 +37,8 @@ number-fits (answer.Changed n words) = omega arith
 number-fits (answer.Entries count) = omega arith
 number-fits (answer.Placed p points) = omega arith
 number-fits (answer.Checked n) = omega arith
+number-fits (answer.Present rank) = omega arith
+number-fits (answer.Absent rank) = omega arith
 number-fits (answer.Converted m) = omega arith
 number-fits (answer.Refused c) = cause-bounds c .1
 

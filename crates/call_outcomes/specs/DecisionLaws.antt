@@ -1,7 +1,7 @@
 -- What is decided of a call, and what the call then comes to.
-use mathlib.Core.Path.{_≡_, refl}
+use mathlib.Core.Path.{_≡_, refl, sym}
 use mathlib.Core.Bool.{Bool, true, false}
-use mathlib.Core.List.{List, _++_}
+use mathlib.Core.List.{List, [], _++_}
 use mathlib.Core.Option.{Option, some, none}
 use Prim.Native.Nat.{ℕ}
 use native.Mathlib.Omega.{arith}
@@ -9,7 +9,9 @@ use lib.ListN.{length, drop}
 use Rattle.draw_shares.specs.Tape.{runAt}
 use Rattle.store_layout.specs.Decode.{Contents}
 use Rattle.call_outcomes.specs.declared.Cause.{Cause}
-use Rattle.call_outcomes.specs.Kind.{Found, holds, wrong, View, ask, Kind, CallFor, StoreFor}
+use Rattle.call_outcomes.specs.declared.Cause.the-variants.{Lengths}
+use Rattle.call_outcomes.specs.declared.Answer.the-variants.{Cleared, Refused}
+use Rattle.call_outcomes.specs.Kind.{Found, holds, wrong, View, empty, clear, ask, Kind, CallFor, StoreFor}
 use Rattle.call_outcomes.specs.Causes.{firstOf, Decision, refuse, accept, byLengths, byFound, storeDecision, lookedAt, argumentCause, byArguments, decision}
 use Rattle.call_outcomes.specs.Outcome.{effect, answerOf, entriesOf, refused, finished, outcomeBy, outcome}
 
@@ -103,3 +105,18 @@ question-keeps kind q tape store output = go (decision kind (ask q) store)
     go : (d : Decision) → outcomeBy kind (ask q) tape store output d .store ≡ store
     go (refuse cause) = refl
     go (accept before) = refl
+
+-- ---- clear
+
+module _ (kind : Kind) (store : StoreFor kind) (tape : List ℕ) where
+  -- A store of the right lengths is made the empty sheet, whatever it holds.
+  pub clear-outcome : kind .view .rightLengths store ≡ true
+      → record { answer = Cleared; store = kind .view .lay (empty .list) (empty .shape); output = [] } ≡ outcome kind clear tape store []
+  unfolding decision lookedAt byLengths byArguments argumentCause finished effect runAt answerOf entriesOf
+  clear-outcome right = sym (outcome-accepted kind clear store tape [] empty (rw right))
+
+  -- Any other is refused by cause 1.
+  pub clear-refused : kind .view .rightLengths store ≡ false
+      → record { answer = Refused Lengths; store = store; output = [] } ≡ outcome kind clear tape store []
+  unfolding refused decision lookedAt byLengths byArguments
+  clear-refused other = sym (outcome-refused kind clear store tape [] Lengths (rw other))

@@ -1,4 +1,4 @@
--- The numbers and values that an answer returns (document 01, "Causes and numbers"). Definitions only.
+-- The numbers and values that an answer returns (document 01, "Causes and numbers"; document 02, F-1). Definitions only.
 use Prim.Native.Nat.{ℕ}
 use Rattle.call_outcomes.specs.declared.Cause.{Cause}
 use Rattle.call_outcomes.specs.declared.Cause.the-variants as cause
@@ -10,7 +10,9 @@ use Rattle.call_outcomes.specs.declared.Answer.the-variants as answer
 abbrev pub causeNumber : Cause → ℕ
 causeNumber cause.Lengths = 1
 causeNumber cause.NotASheet = 2
+causeNumber cause.NotTimed = 11
 causeNumber cause.EntryZero = 3
+causeNumber cause.EntryPresent = 10
 causeNumber cause.Rank = 4
 causeNumber cause.Full = 5
 causeNumber cause.OutputShort = 6
@@ -25,5 +27,7 @@ returned (answer.Changed n words) = record { number = 0; first = n; second = wor
 returned (answer.Entries count) = record { number = 0; first = count; second = 0 }
 returned (answer.Placed p points) = record { number = 0; first = p; second = points }
 returned (answer.Checked n) = record { number = 0; first = n; second = 0 }
+returned (answer.Present rank) = record { number = 0; first = 1; second = rank }
+returned (answer.Absent rank) = record { number = 0; first = 0; second = rank }
 returned (answer.Converted m) = record { number = 0; first = m; second = 0 }
 returned (answer.Refused cause) = record { number = causeNumber cause; first = 0; second = 0 }

@@ -6,7 +6,9 @@ ghost use Rattle.call_outcomes.specs.Returns as returns;
 pub enum Cause {
     Lengths,
     NotASheet,
+    NotTimed,
     EntryZero,
+    EntryPresent,
     Rank,
     Full,
     OutputShort,
@@ -22,6 +24,8 @@ pub enum Answer {
     Entries { count: usize },
     Placed { place: usize, points: usize },
     Checked { n: usize },
+    Present { rank: usize },
+    Absent { rank: usize },
     Converted { m: usize },
     Refused(Cause),
 }
@@ -34,7 +38,9 @@ impl Cause {
         match self {
             Cause::Lengths => 1,
             Cause::NotASheet => 2,
+            Cause::NotTimed => 11,
             Cause::EntryZero => 3,
+            Cause::EntryPresent => 10,
             Cause::Rank => 4,
             Cause::Full => 5,
             Cause::OutputShort => 6,
@@ -52,42 +58,31 @@ pub struct Returned {
     pub second: usize,
 }
 
+// What an accepted call returns with these values.
+fn accepted(first: usize, second: usize) -> Returned
+    ensures { λ r. ⌜ r ≡ record { number = 0; first = first; second = second } ⌝ }
+{
+    Returned {
+        number: 0,
+        first: first,
+        second: second,
+    }
+}
+
 impl Answer {
     // The number and the values that the answer returns.
     pub fn returned(self) -> Returned
         ensures { λ r. ⌜ r ≡ returns.returned self ⌝ }
     {
         match self {
-            Answer::Cleared => Returned {
-                number: 0,
-                first: 0,
-                second: 0,
-            },
-            Answer::Changed { n, words } => Returned {
-                number: 0,
-                first: n,
-                second: words,
-            },
-            Answer::Entries { count } => Returned {
-                number: 0,
-                first: count,
-                second: 0,
-            },
-            Answer::Placed { place, points } => Returned {
-                number: 0,
-                first: place,
-                second: points,
-            },
-            Answer::Checked { n } => Returned {
-                number: 0,
-                first: n,
-                second: 0,
-            },
-            Answer::Converted { m } => Returned {
-                number: 0,
-                first: m,
-                second: 0,
-            },
+            Answer::Cleared => accepted(0, 0),
+            Answer::Changed { n, words } => accepted(n, words),
+            Answer::Entries { count } => accepted(count, 0),
+            Answer::Placed { place, points } => accepted(place, points),
+            Answer::Checked { n } => accepted(n, 0),
+            Answer::Present { rank } => accepted(1, rank),
+            Answer::Absent { rank } => accepted(0, rank),
+            Answer::Converted { m } => accepted(m, 0),
             Answer::Refused(cause) => {
                 let number = cause.number();
                 Returned {

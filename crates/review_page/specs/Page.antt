@@ -1,6 +1,6 @@
 -- The reviewer's page: what is claimed of the clubs' sheets, a sentence and a theorem each. The definitions that the statements name stand in
--- store_order (TreeOrder), call_outcomes (Kind, Causes, Outcome, Plain, Clubs), call_orders (Conversion, NumberOrder, Converts), call_history
--- (History, TapeRuns), frame_sessions (Session) and frame_chunks (Chunk, Input).
+-- store_order (TreeOrder), store_keys (Key), call_outcomes (Kind, Causes, Outcome, Plain, Clubs), call_timed (Timed), call_orders (Conversion,
+-- NumberOrder, Converts), call_history (History, TapeRuns), frame_sessions (Session) and frame_chunks (Chunk, Input).
 use mathlib.Core.Path.{_≡_}
 use mathlib.Core.Bool.{true}
 use mathlib.Core.Logic.{_≢_, _↔_}
@@ -13,6 +13,7 @@ use Rattle.draw_shares.specs.Program.{Among, Draws}
 use Rattle.draw_shares.specs.Fraction.{_≐_, whole, unit}
 use Rattle.draw_shares.specs.Course.{Follows, share}
 use Rattle.tree_rules.specs.declared.Change.{Change}
+use Rattle.tree_rules.specs.declared.Change.the-variants.{Insert}
 use Rattle.tree_rules.specs.Tree.{Shape, IsShape}
 use Rattle.tree_rules.specs.ChangeList.{changeList}
 use Rattle.tree_canonical.specs.ShapeShare.{shapeProduct}
@@ -22,8 +23,8 @@ use Rattle.store_order.specs.TreeOrderLaws.{order-permutes}
 use Rattle.store_order.specs.Copied.{up}
 use Rattle.store_layout.specs.Layout.{Store, layOut}
 use Rattle.call_outcomes.specs.declared.Cause.{Cause}
-use Rattle.call_outcomes.specs.declared.Cause.the-variants.{NotASheet, TapeEnded}
-use Rattle.call_outcomes.specs.declared.Answer.the-variants.{Checked, Changed, Converted, Refused}
+use Rattle.call_outcomes.specs.declared.Cause.the-variants.{NotASheet, NotTimed, TapeEnded}
+use Rattle.call_outcomes.specs.declared.Answer.the-variants.{Checked, Changed, Present, Converted, Refused}
 use Rattle.call_outcomes.specs.Causes.{argumentCause}
 use Rattle.call_outcomes.specs.Outcome.{outcome, callProgram}
 use Rattle.call_outcomes.specs.Plain.{IsList, RightLengths, equalStores, plainView, plain, Call, delete, check, changing}
@@ -46,6 +47,15 @@ use Rattle.call_history.specs.ClubSupply.{clubs-suppliable}
 use Rattle.call_history.specs.Clause as clause
 use Rattle.call_history.specs.ClubSheets as sheets
 use Rattle.call_history.specs.ClubSheets.{ClubSheet}
+use Rattle.store_keys.specs.Key.{key, Rises, rankOf, present}
+use Rattle.store_keys.specs.KeyLaws as keys
+use Rattle.call_timed.specs.Timed as timed-calls
+use Rattle.call_timed.specs.Timed.{TimedStore, layTimed, TimedLengths, equalTimed, timedView, foundAt, timed, TimedCall}
+use Rattle.call_timed.specs.TimedLaws.{timed-right}
+use Rattle.timed_history.specs.Clause as timed-clause
+use Rattle.timed_history.specs.Clause.{clubs-timed, timed-suppliable}
+use Rattle.timed_history.specs.TimedSheets as timed-sheets
+use Rattle.timed_history.specs.TimedSheets.{TimedSheet}
 use Rattle.frame_input.specs.Lines.{linesOf}
 use Rattle.frame_input.specs.Chunks.{joined}
 use Rattle.frame_answers.specs.Step.{Kept, TapeReady, atStart, answersTo, keptAfter}
@@ -176,6 +186,83 @@ laid-converted = orders.laid-converted clubs clubs-roomy
 pub calls-converted : (call : Call) (tape : List ℕ) (store : Store) (output : List ℕ)
     → outcome (plain clubs) call tape (toTreeOrder clubs store) output ≡ converted (toTreeOrder clubs) (outcome (inNumberOrder clubs) call tape store output)
 calls-converted = orders.calls-converted clubs clubs-roomy
+
+-- ---- timed sheets
+
+-- For every two timed histories, on stores of three slices that held anything at all before, every store has the same share in both exactly
+-- when both end with the same list.
+pub equal-timed-tables : (calls calls′ : List TimedCall) (store store′ : TimedStore) → TimedLengths clubs store → TimedLengths clubs store′
+    → SameTable (timedView clubs) (history (timed clubs) calls store) (history (timed clubs) calls′ store′)
+    ↔ (listAtEnd (timed clubs) calls ≡ listAtEnd (timed clubs) calls′)
+equal-timed-tables = timed-clause.clause
+
+-- The shares of a timed history sum to 1; each timed sheet of the list at the end has the share 1 / N times 1 / c for each range above the
+-- leaves, and no other store has a share above 0.
+pub timed-shares-sum : (calls : List TimedCall) (store : TimedStore) → TimedLengths clubs store
+    → share (λ _. true) (history (timed clubs) calls store) ≐ whole 1
+timed-shares-sum calls store right = shares.shares-sum (timed clubs) clubs-timed calls store (timed-right clubs store right)
+
+pub timed-sheet-shares : (calls : List TimedCall) (store : TimedStore) → TimedLengths clubs store → (s : Shape)
+    → IsShape (length (listAtEnd (timed clubs) calls)) s
+    → share (equalTimed (layTimed clubs (listAtEnd (timed clubs) calls) s)) (history (timed clubs) calls store)
+    ≐ unit (shapeProduct (length (listAtEnd (timed clubs) calls)) s)
+timed-sheet-shares = timed-clause.sheet-shares
+
+pub timed-positive-shares : (calls : List TimedCall) (store : TimedStore) → TimedLengths clubs store → (v : TimedStore)
+    → (¬ (share (equalTimed v) (history (timed clubs) calls store) ≐ whole 0)) ↔ TimedSheet (listAtEnd (timed clubs) calls) v
+timed-positive-shares calls store right = shares.positive-sheets (timed clubs) clubs-timed calls store (timed-right clubs store right)
+
+-- Whatever words the tapes of the calls hold, if no call returns 7, the calls leave the store of three slices with which the course ends
+-- whose faces those words decide; and it is a timed sheet of the list at the end.
+pub timed-words-decide : (sent : List (Sent TimedCall)) (store : TimedStore) → NoneEnds (timed clubs) (clearing (timed clubs) ∷ sent) store → (final : TimedStore)
+    → Follows (history (timed clubs) (callsOf sent) store) (facesSent (timed clubs) (clearing (timed clubs) ∷ sent) store) final
+    ↔ (final ≡ lastStore (timed clubs) (clearing (timed clubs) ∷ sent) store)
+timed-words-decide = timed-clause.words
+
+pub timed-last-sheet : (sent : List (Sent TimedCall)) (store : TimedStore) → TimedLengths clubs store
+    → NoneEnds (timed clubs) (clearing (timed clubs) ∷ sent) store
+    → TimedSheet (listAtEnd (timed clubs) (callsOf sent)) (lastStore (timed clubs) (clearing (timed clubs) ∷ sent) store)
+timed-last-sheet sent store right = shares.last-sheet (timed clubs) clubs-timed sent store (timed-right clubs store right)
+
+-- For every course of a timed history there are tapes such that no call returns 7 and the words decide this very course.
+pub timed-coins-supplied : (calls : List TimedCall) (store : TimedStore) → TimedLengths clubs store → (faces : List ℕ) (v : TimedStore)
+    → Follows (history (timed clubs) calls store) faces v
+    → (sent : List (Sent TimedCall)) × (callsOf sent ≡ calls) × NoneEnds (timed clubs) (clearing (timed clubs) ∷ sent) store
+    × (facesSent (timed clubs) (clearing (timed clubs) ∷ sent) store ≡ faces) × (lastStore (timed clubs) (clearing (timed clubs) ∷ sent) store ≡ v)
+timed-coins-supplied calls store right = history-supplied (timed clubs) clubs-timed timed-suppliable calls store (timed-right clubs store right)
+
+-- A check of a timed sheet answers with the length of its list; a check of any other store of the right lengths is refused by cause 2 where
+-- slots and counts are no plain sheet, and by cause 11 where they are one.
+pub timed-check-sheet : (list : List ℕ) (store : TimedStore) → TimedSheet list store → (tape output : List ℕ)
+    → outcome (timed clubs) timed-calls.check tape store output .answer ≡ Checked (length list)
+timed-check-sheet = timed-sheets.check-sheet
+
+pub timed-check-other : (store : TimedStore) → TimedLengths clubs store → (tape output : List ℕ) → ((list : List ℕ) → ClubSheet list (store .sheet) → ⊥)
+    → outcome (timed clubs) timed-calls.check tape store output .answer ≡ Refused NotASheet
+timed-check-other = timed-sheets.check-other
+
+pub timed-check-untimed : (store : TimedStore) → TimedLengths clubs store → (tape output : List ℕ) (list : List ℕ) → ClubSheet list (store .sheet)
+    → ((list : List ℕ) → TimedSheet list store → ⊥) → outcome (timed clubs) timed-calls.check tape store output .answer ≡ Refused NotTimed
+timed-check-untimed = timed-sheets.check-untimed
+
+-- A find of an entry is answered by the list: that it is there, with its rank, or that it is not, with the rank at which it would stand. The
+-- entry at a rank is found there; and a key that is present is that of the entry at its rank.
+pub find-sheet : (list : List ℕ) (store : TimedStore) → TimedSheet list store → (e : ℕ) → key e ≢ 0 → (tape output : List ℕ)
+    → outcome (timed clubs) (timed-calls.find e) tape store output .answer ≡ foundAt (present (key e) list) (rankOf (key e) list)
+find-sheet = timed-sheets.find-sheet
+
+pub find-entry : (list : List ℕ) (store : TimedStore) → TimedSheet list store → (r : ℕ) → r < length list → key (getD list r 0) ≢ 0 → (tape output : List ℕ)
+    → outcome (timed clubs) (timed-calls.find (getD list r 0)) tape store output .answer ≡ Present r
+find-entry = timed-sheets.find-entry
+
+pub entry-at : (k : ℕ) (list : List ℕ) → Rises list → present k list ≡ true → (rankOf k list < length list) × (key (getD list (rankOf k list) 0) ≡ k)
+entry-at = keys.entry-at
+
+-- An insert that is made leaves a timed sheet of the list with the entry in at the rank of its key, and such a list rises.
+pub inserted-sheet : (list : List ℕ) (store : TimedStore) → TimedSheet list store → (e : ℕ) (tape output : List ℕ) (n words : ℕ)
+    → outcome (timed clubs) (timed-calls.insert e) tape store output .answer ≡ Changed n words
+    → TimedSheet (changeList (Insert (rankOf (key e) list)) e list) (outcome (timed clubs) (timed-calls.insert e) tape store output .store)
+inserted-sheet = timed-sheets.inserted-sheet
 
 -- ---- the program
 

@@ -1,3 +1,3 @@
--- The six calls and the conversions as C programs make them.
-pub mod Handed
-pub mod HandedLaws
+-- The conversions as C programs make them.
+pub mod HandedCounts
+pub mod HandedCountsLaws

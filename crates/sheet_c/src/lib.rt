@@ -1,36 +1,26 @@
 // The calls for programs in C: the number of the cause is returned, and the two values stand in an answer slice.
 ghost use mathlib.Core.Path.{_≡_};
 ghost use mathlib.Core.List.{[]};
-ghost use Prim.Native.Nat.{_≤_};
 ghost use lib.ListN.{length};
 ghost use Rattle.call_outcomes.specs.Kind.{clear};
 ghost use Rattle.call_outcomes.specs.Plain as call;
-ghost use Rattle.call_outcomes.specs.Plain.{storeOf};
+ghost use Rattle.call_outcomes.specs.Plain.{plain, storeOf};
+ghost use Rattle.call_outcomes.specs.Clubs.{clubs};
+ghost use Rattle.call_handed.specs.Handed.{handed};
 ghost use Rattle.call_orders.specs.Conversion.{toTree, toNumber};
-ghost use Rattle.sheet_c.specs.Handed.{filled, handed, handedConversion};
-use call_outcomes::Returned;
+ghost use Rattle.sheet_c.specs.HandedCounts.{handedConversion};
 use tree_rules::Change;
-
-// Puts the two values at the front of the answer slice, and gives the number.
-fn hand(back: Returned, answer: &mut [u64]) -> usize
-    requires { ⌜ 2 ≤ length (now answer) ⌝ }
-    ensures { λ r. ⌜ (r ≡ back .number) × (now (answer .exit) ≡ filled back (now (answer .entry))) ⌝ }
-{
-    answer[0] = back.first as u64;
-    answer[1] = back.second as u64;
-    back.number
-}
 
 // Makes any contents the empty sheet.
 #[no_mangle]
 pub extern "C" fn sheet_clear(slots: &mut [u64], counts: &mut [u16], answer: &mut [u64]) -> usize
     ensures { λ r. ⌜ record { number = r; store = storeOf (now (slots .exit)) (now (counts .exit)); output = []; answer = now (answer .exit) }
-        ≡ handed clear [] (storeOf (now (slots .entry)) (now (counts .entry))) [] (now (answer .entry)) ⌝ }
+        ≡ handed (plain clubs) clear [] (storeOf (now (slots .entry)) (now (counts .entry))) [] (now (answer .entry)) ⌝ }
 {
     if answer.len() < 2 {
         return 255;
     }
-    hand(sheet_calls::clear(slots, counts).returned(), answer)
+    call_handed::hand(sheet_calls::clear(slots, counts).returned(), answer)
 }
 
 // Makes the change of the list, with the entry of an insert.
@@ -43,12 +33,12 @@ fn hand_change(
     answer: &mut [u64],
 ) -> usize
     ensures { λ r. ⌜ record { number = r; store = storeOf (now (slots .exit)) (now (counts .exit)); output = []; answer = now (answer .exit) }
-        ≡ handed (call.changing change entry) (now (tape .entry)) (storeOf (now (slots .entry)) (now (counts .entry))) [] (now (answer .entry)) ⌝ }
+        ≡ handed (plain clubs) (call.changing change entry) (now (tape .entry)) (storeOf (now (slots .entry)) (now (counts .entry))) [] (now (answer .entry)) ⌝ }
 {
     if answer.len() < 2 {
         return 255;
     }
-    hand(
+    call_handed::hand(
         sheet_calls::make_change(slots, counts, change, entry, tape).returned(),
         answer,
     )
@@ -65,7 +55,7 @@ pub extern "C" fn sheet_insert(
     answer: &mut [u64],
 ) -> usize
     ensures { λ r. ⌜ record { number = r; store = storeOf (now (slots .exit)) (now (counts .exit)); output = []; answer = now (answer .exit) }
-        ≡ handed (call.insert rank entry) (now (tape .entry)) (storeOf (now (slots .entry)) (now (counts .entry))) [] (now (answer .entry)) ⌝ }
+        ≡ handed (plain clubs) (call.insert rank entry) (now (tape .entry)) (storeOf (now (slots .entry)) (now (counts .entry))) [] (now (answer .entry)) ⌝ }
 {
     hand_change(slots, counts, Change::Insert(rank), entry, tape, answer)
 }
@@ -80,7 +70,7 @@ pub extern "C" fn sheet_delete(
     answer: &mut [u64],
 ) -> usize
     ensures { λ r. ⌜ record { number = r; store = storeOf (now (slots .exit)) (now (counts .exit)); output = []; answer = now (answer .exit) }
-        ≡ handed (call.delete rank) (now (tape .entry)) (storeOf (now (slots .entry)) (now (counts .entry))) [] (now (answer .entry)) ⌝ }
+        ≡ handed (plain clubs) (call.delete rank) (now (tape .entry)) (storeOf (now (slots .entry)) (now (counts .entry))) [] (now (answer .entry)) ⌝ }
 {
     hand_change(slots, counts, Change::Delete(rank), 0, tape, answer)
 }
@@ -96,12 +86,12 @@ pub extern "C" fn sheet_read(
     answer: &mut [u64],
 ) -> usize
     ensures { λ r. ⌜ record { number = r; store = storeOf (now (slots .entry)) (now (counts .entry)); output = now (output .exit); answer = now (answer .exit) }
-        ≡ handed (call.read first last (length (now (output .entry)))) [] (storeOf (now (slots .entry)) (now (counts .entry))) (now (output .entry)) (now (answer .entry)) ⌝ }
+        ≡ handed (plain clubs) (call.read first last (length (now (output .entry)))) [] (storeOf (now (slots .entry)) (now (counts .entry))) (now (output .entry)) (now (answer .entry)) ⌝ }
 {
     if answer.len() < 2 {
         return 255;
     }
-    hand(
+    call_handed::hand(
         sheet_calls::read(slots, counts, first, last, output).returned(),
         answer,
     )
@@ -116,24 +106,24 @@ pub extern "C" fn sheet_place(
     answer: &mut [u64],
 ) -> usize
     ensures { λ r. ⌜ record { number = r; store = storeOf (now (slots .entry)) (now (counts .entry)); output = []; answer = now (answer .exit) }
-        ≡ handed (call.place rank) [] (storeOf (now (slots .entry)) (now (counts .entry))) [] (now (answer .entry)) ⌝ }
+        ≡ handed (plain clubs) (call.place rank) [] (storeOf (now (slots .entry)) (now (counts .entry))) [] (now (answer .entry)) ⌝ }
 {
     if answer.len() < 2 {
         return 255;
     }
-    hand(sheet_calls::place(slots, counts, rank).returned(), answer)
+    call_handed::hand(sheet_calls::place(slots, counts, rank).returned(), answer)
 }
 
 // The number of entries of a sheet.
 #[no_mangle]
 pub extern "C" fn sheet_check(slots: &[u64], counts: &[u16], answer: &mut [u64]) -> usize
     ensures { λ r. ⌜ record { number = r; store = storeOf (now (slots .entry)) (now (counts .entry)); output = []; answer = now (answer .exit) }
-        ≡ handed call.check [] (storeOf (now (slots .entry)) (now (counts .entry))) [] (now (answer .entry)) ⌝ }
+        ≡ handed (plain clubs) call.check [] (storeOf (now (slots .entry)) (now (counts .entry))) [] (now (answer .entry)) ⌝ }
 {
     if answer.len() < 2 {
         return 255;
     }
-    hand(sheet_calls::check(slots, counts).returned(), answer)
+    call_handed::hand(sheet_calls::check(slots, counts).returned(), answer)
 }
 
 // Counts in the order of the range numbers, put into the tree order.
@@ -145,7 +135,7 @@ pub extern "C" fn sheet_to_tree_order(counts: &mut [u16], answer: &mut [u64]) ->
     if answer.len() < 2 {
         return 255;
     }
-    hand(sheet_orders::to_tree_order(counts).returned(), answer)
+    call_handed::hand(sheet_orders::to_tree_order(counts).returned(), answer)
 }
 
 // Counts in the tree order, put back into the order of the range numbers.
@@ -157,5 +147,5 @@ pub extern "C" fn sheet_to_number_order(counts: &mut [u16], answer: &mut [u64]) 
     if answer.len() < 2 {
         return 255;
     }
-    hand(sheet_orders::to_number_order(counts).returned(), answer)
+    call_handed::hand(sheet_orders::to_number_order(counts).returned(), answer)
 }

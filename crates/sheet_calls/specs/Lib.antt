@@ -1,4 +1,3 @@
--- What the code of the six calls comes to, for any capacity.
-pub mod CallLaws
+-- What the code of the six calls comes to.
 pub mod ClearLaws
-pub mod AtClubs
+pub mod QuestionLaws

@@ -10,34 +10,20 @@ ghost use Rattle.call_outcomes.specs.Clubs.{clubs};
 use call_open::Opened;
 use call_outcomes::Answer;
 use call_outcomes::Cause;
-use store_layout::Capacity;
 use tree_rules::Change;
-use tree_sizes::Size;
-
-// What the clubs' store has room for.
-fn capacity() -> Capacity
-    ensures { λ r. ⌜ r ≡ clubs ⌝ }
-{
-    Capacity {
-        entries: 1024,
-        slots: 4224,
-        counts: 256,
-    }
-}
 
 // Makes any contents the empty sheet.
 pub fn clear(slots: &mut [u64], counts: &mut [u16]) -> Answer
     ensures { λ r. ⌜ outcomeOf r (now (slots .exit)) (now (counts .exit)) []
         ≡ outcome (plain clubs) clear [] (storeOf (now (slots .entry)) (now (counts .entry))) [] ⌝ }
 {
-    let cap = capacity();
-    if slots.len() != cap.slots {
+    if slots.len() != 4224 {
         return Answer::Refused(Cause::Lengths);
     }
-    if counts.len() != cap.counts {
+    if counts.len() != 256 {
         return Answer::Refused(Cause::Lengths);
     }
-    store_slices::zero_slots(slots, 0, cap.slots);
+    store_slices::zero_slots(slots, 0, 4224);
     store_counts::zero_counts(counts);
     Answer::Cleared
 }
@@ -53,12 +39,11 @@ pub fn make_change(
     ensures { λ r. ⌜ outcomeOf r (now (slots .exit)) (now (counts .exit)) []
         ≡ outcome (plain clubs) (call.changing change entry) (now (tape .entry)) (storeOf (now (slots .entry)) (now (counts .entry))) [] ⌝ }
 {
-    let cap = capacity();
     let mut work = [0u32; 256];
-    let opened = call_open::examine(cap, slots, counts, &mut work);
-    match call_open::admit_change(opened, cap.entries, change, entry) {
+    let opened = sheet_open::examine(slots, counts, &mut work);
+    match call_open::admit_change(opened, 1024, change, entry) {
         Opened::Sheet { n, m } => {
-            sheet_change::change(slots, counts, &mut work, n, m, change, entry, tape)
+            sheet_change::make(slots, counts, &mut work, n, m, change, entry, tape).answer()
         }
         Opened::Refused(cause) => Answer::Refused(cause),
     }
@@ -86,22 +71,14 @@ pub fn delete(slots: &mut [u64], counts: &mut [u16], rank: usize, tape: &[u32]) 
     make_change(slots, counts, Change::Delete(rank), 0, tape)
 }
 
-// Copies the entries of ranks first to last to the front of the output, from the leaf on in which the first of them stands.
+// Copies the entries of ranks first to last to the front of the output.
 pub fn read(slots: &[u64], counts: &[u16], first: usize, last: usize, output: &mut [u64]) -> Answer
     ensures { λ r. ⌜ outcomeOf r (now (slots .entry)) (now (counts .entry)) (now (output .exit))
         ≡ outcome (plain clubs) (call.read first last (length (now (output .entry)))) [] (storeOf (now (slots .entry)) (now (counts .entry))) (now (output .entry)) ⌝ }
 {
     let mut work = [0u32; 256];
-    let opened = call_open::examine(capacity(), slots, counts, &mut work);
-    match call_open::admit_read(opened, first, last, output.len()) {
-        Opened::Sheet { n: _, m } => {
-            let count = last - first + 1;
-            let start = store_rank::start_of(Size { m: m }, &work, first);
-            store_slices::read_from(slots, start.slot, start.rank, count, output);
-            Answer::Entries { count: count }
-        }
-        Opened::Refused(cause) => Answer::Refused(cause),
-    }
+    let opened = sheet_open::examine(slots, counts, &mut work);
+    call_questions::read(opened, slots, &work, first, last, output)
 }
 
 // The place of the entry at the rank, and its points.
@@ -110,17 +87,8 @@ pub fn place(slots: &[u64], counts: &[u16], rank: usize) -> Answer
         ≡ outcome (plain clubs) (call.place rank) [] (storeOf (now (slots .entry)) (now (counts .entry))) [] ⌝ }
 {
     let mut work = [0u32; 256];
-    let opened = call_open::examine(capacity(), slots, counts, &mut work);
-    match call_open::admit_rank(opened, rank) {
-        Opened::Sheet { n: _, m: _ } => {
-            let number = rank + 1;
-            Answer::Placed {
-                place: number,
-                points: number,
-            }
-        }
-        Opened::Refused(cause) => Answer::Refused(cause),
-    }
+    let opened = sheet_open::examine(slots, counts, &mut work);
+    call_questions::place(opened, rank)
 }
 
 // The number of entries of a sheet.
@@ -129,8 +97,6 @@ pub fn check(slots: &[u64], counts: &[u16]) -> Answer
         ≡ outcome (plain clubs) call.check [] (storeOf (now (slots .entry)) (now (counts .entry))) [] ⌝ }
 {
     let mut work = [0u32; 256];
-    match call_open::examine(capacity(), slots, counts, &mut work) {
-        Opened::Sheet { n, m: _ } => Answer::Checked { n: n },
-        Opened::Refused(cause) => Answer::Refused(cause),
-    }
+    let opened = sheet_open::examine(slots, counts, &mut work);
+    call_questions::check(opened)
 }

@@ -1,2 +1,2 @@
--- A change of the clubs' sheet.
-pub mod ClubsReady
+-- What became of a change.
+pub mod Made

@@ -6,12 +6,19 @@ ghost use lib.ListN.{length, getD};
 ghost use Rattle.call_outcomes.specs.Outcome.{outcome};
 ghost use Rattle.call_outcomes.specs.Plain.{plain, changing, storeOf, outcomeOf};
 ghost use Rattle.call_outcomes.specs.Clubs.{clubs};
+ghost use Rattle.sheet_change.specs.Made.{answerTo};
 ghost use Rattle.call_change.specs.SheetChange.{ChangeReady, entriesBefore, WriteReady, written};
 use call_change::DrawnChange;
 use call_outcomes::Answer;
 use call_outcomes::Cause;
 use tree_rules::Change;
 use tree_walk::Updated;
+
+// What became of a change: it is made, and leaves so many entries after so many words read; or the tape ended, and nothing is written.
+pub enum Made {
+    Done { n: usize, words: usize },
+    Ended,
+}
 
 // Writes a drawn change whose part has at most 128 entries after it: 131 entries are room enough in the list.
 fn write_by_short_list(slots: &mut [u64], counts: &mut [u16], work: &[u32], drawn: DrawnChange)
@@ -51,9 +58,9 @@ fn write_drawn(slots: &mut [u64], counts: &mut [u16], work: &[u32], drawn: Drawn
     }
 }
 
-// Carries out the change of a sheet of n entries with the size parameter m, whose counts the work array has by range number. Everything is
-// drawn in the work array; the slices are written only after that.
-pub fn change(
+// Makes the change of a sheet of n entries with the size parameter m, whose counts the work array has by range number. Everything is drawn
+// in the work array; the slices are written only after that.
+pub fn make(
     slots: &mut [u64],
     counts: &mut [u16],
     work: &mut [u32],
@@ -62,9 +69,9 @@ pub fn change(
     change: Change,
     entry: u64,
     tape: &[u32],
-) -> Answer
+) -> Made
     requires { ⌜ ChangeReady clubs change entry n m (storeOf (now slots) (now counts)) (now work) ⌝ }
-    ensures { λ r. ⌜ outcomeOf r (now (slots .exit)) (now (counts .exit)) []
+    ensures { λ r. ⌜ outcomeOf (answerTo r) (now (slots .exit)) (now (counts .exit)) []
         ≡ outcome (plain clubs) (changing change entry) (now (tape .entry)) (storeOf (now (slots .entry)) (now (counts .entry))) [] ⌝ }
 {
     let after = tree_counts::count_after(change, n);
@@ -82,11 +89,23 @@ pub fn change(
                 entry: entry,
             };
             write_drawn(slots, counts, work, drawn);
-            Answer::Changed {
+            Made::Done {
                 n: after,
                 words: next,
             }
         }
-        Updated::Ended => Answer::Refused(Cause::TapeEnded),
+        Updated::Ended => Made::Ended,
+    }
+}
+
+impl Made {
+    // The answer to the change.
+    pub fn answer(self) -> Answer
+        ensures { λ r. ⌜ r ≡ answerTo self ⌝ }
+    {
+        match self {
+            Made::Done { n, words } => Answer::Changed { n: n, words: words },
+            Made::Ended => Answer::Refused(Cause::TapeEnded),
+        }
     }
 }

@@ -35,7 +35,7 @@ zero-all (x ∷ xs) h = rw (eq-eqb x 0 (h 0), zero-all xs (λ i. h (suc i)))
 -- ---- numbers joined bit by bit
 
 -- The bits of two numbers joined are 0 exactly where both numbers are.
-joined-zero : (a b : ℕ) → eqb (bitOr a b) 0 ≡ (eqb a 0 && eqb b 0)
+pub joined-zero : (a b : ℕ) → eqb (bitOr a b) 0 ≡ (eqb a 0 && eqb b 0)
 joined-zero a b =
     tests-agree (eqb (bitOr a b) 0) (eqb a 0 && eqb b 0)
     (λ h.

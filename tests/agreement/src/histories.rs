@@ -10,7 +10,7 @@ pub const BORDER: &[usize] = &[30, 60, 64, 65, 66, 70, 130];
 pub const FULL: &[usize] = &[0, 300, 700, 1024, 1024];
 
 /// A tape: long enough as a rule, at times too short.
-fn tape(random: &mut SplitMix64) -> Vec<u32> {
+pub fn tape(random: &mut SplitMix64) -> Vec<u32> {
     let length = match random.below(40) {
         0 => random.below(6),
         1 | 2 => random.below(200),
@@ -32,7 +32,7 @@ pub fn entry(random: &mut SplitMix64) -> u64 {
 }
 
 /// A rank, at times past the end.
-fn rank(random: &mut SplitMix64, n: usize) -> usize {
+pub fn rank(random: &mut SplitMix64, n: usize) -> usize {
     match random.below(30) {
         0 => n + random.below(3),
         1 => usize::MAX,

@@ -5,15 +5,40 @@ pub mod histories;
 pub mod lines;
 pub mod program;
 pub mod proved;
+pub mod shares;
+pub mod stores;
+pub mod timed;
+pub mod timed_histories;
 
+use reference::calls::{self, Answer};
+use reference::conversions;
 use reference::layout::{COUNTS, SLOTS};
-use reference::{calls, conversions};
+use std::fmt::Debug;
 use std::fs;
 use std::io::{self, Write};
 use std::path::Path;
 
 /// The number of the cause or 0, and the two values.
 pub type Returned = [u64; 3];
+
+fn returned(answer: Answer) -> Returned {
+    let [first, second] = answer.values();
+    [answer.number() as u64, first as u64, second as u64]
+}
+
+/// The store of a kind of sheet, and the calls of that kind by both.
+pub trait Lent: Clone + PartialEq {
+    type Call: Clone + Debug;
+
+    /// The call on the second implementation: what it returns, and the output.
+    fn by_reference(&mut self, call: &Self::Call) -> (Returned, Vec<u64>);
+
+    /// The call on the proved library.
+    fn by_proved(&mut self, call: &Self::Call) -> (Returned, Vec<u64>);
+
+    /// The tape of an insert or a delete.
+    fn tape(call: &mut Self::Call) -> Option<&mut Vec<u32>>;
+}
 
 #[derive(Clone, Debug)]
 pub enum Call {
@@ -47,38 +72,51 @@ impl Store {
     }
 }
 
-/// The call on the second implementation: what it returns, and the output.
-fn by_reference(call: &Call, store: &mut Store) -> (Returned, Vec<u64>) {
-    let Store { slots, counts } = store;
-    let mut out = Vec::new();
-    let answer = match call {
-        Call::Clear => calls::clear(slots, counts),
-        Call::Insert { rank, entry, tape } => calls::insert(slots, counts, *rank, *entry, tape),
-        Call::Delete { rank, tape } => calls::delete(slots, counts, *rank, tape),
-        Call::Read { first, last, output } => {
-            out = output.clone();
-            calls::read(slots, counts, *first, *last, &mut out)
+impl Lent for Store {
+    type Call = Call;
+
+    fn by_reference(&mut self, call: &Call) -> (Returned, Vec<u64>) {
+        let Store { slots, counts } = self;
+        let mut out = Vec::new();
+        let answer = match call {
+            Call::Clear => calls::clear(slots, counts),
+            Call::Insert { rank, entry, tape } => calls::insert(slots, counts, *rank, *entry, tape),
+            Call::Delete { rank, tape } => calls::delete(slots, counts, *rank, tape),
+            Call::Read { first, last, output } => {
+                out = output.clone();
+                calls::read(slots, counts, *first, *last, &mut out)
+            }
+            Call::Place { rank } => calls::place(slots, counts, *rank),
+            Call::Check => calls::check(slots, counts),
+            Call::ToTreeOrder => conversions::to_tree_order(counts),
+            Call::ToNumberOrder => conversions::to_number_order(counts),
+        };
+        (returned(answer), out)
+    }
+
+    fn by_proved(&mut self, call: &Call) -> (Returned, Vec<u64>) {
+        proved::call(call, self)
+    }
+
+    fn tape(call: &mut Call) -> Option<&mut Vec<u32>> {
+        match call {
+            Call::Insert { tape, .. } | Call::Delete { tape, .. } => Some(tape),
+            _ => None,
         }
-        Call::Place { rank } => calls::place(slots, counts, *rank),
-        Call::Check => calls::check(slots, counts),
-        Call::ToTreeOrder => conversions::to_tree_order(counts),
-        Call::ToNumberOrder => conversions::to_number_order(counts),
-    };
-    let [first, second] = answer.values();
-    ([answer.number() as u64, first as u64, second as u64], out)
+    }
 }
 
 /// Two stores, one for each implementation, and the calls made on them, each
 /// tape cut to the words that were read.
-pub struct Both {
-    pub store: Store,
-    proved: Store,
+pub struct Both<S: Lent = Store> {
+    pub store: S,
+    proved: S,
     seed: u64,
-    made: Vec<Call>,
+    made: Vec<S::Call>,
 }
 
-impl Both {
-    pub fn new(seed: u64, store: Store) -> Self {
+impl<S: Lent> Both<S> {
+    pub fn new(seed: u64, store: S) -> Self {
         Both {
             proved: store.clone(),
             store,
@@ -89,12 +127,12 @@ impl Both {
 
     /// Makes the call on both; they agree, or the test ends with the seed and
     /// the history.
-    pub fn call(&mut self, mut call: Call) -> Returned {
-        let (answer, output) = by_reference(&call, &mut self.store);
-        let (proved, proved_output) = proved::call(&call, &mut self.proved);
+    pub fn call(&mut self, mut call: S::Call) -> Returned {
+        let (answer, output) = self.store.by_reference(&call);
+        let (proved, proved_output) = self.proved.by_proved(&call);
         let same = answer == proved && output == proved_output && self.store == self.proved;
-        match &mut call {
-            Call::Insert { tape, .. } | Call::Delete { tape, .. } if same && answer[0] != 7 => {
+        match S::tape(&mut call) {
+            Some(tape) if same && answer[0] != 7 => {
                 tape.truncate(answer[2] as usize);
                 tape.shrink_to_fit();
             }

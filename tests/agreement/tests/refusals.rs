@@ -2,15 +2,10 @@
 //! lengths, tapes that end at every place, and answer slices that are too short,
 //! on both.
 
+use agreement::stores::{sheet_of_size, tape};
 use agreement::{proved, Both, Call, Store};
-use reference::layout::{Node, Shape, COUNTS, SIZE, SLOTS};
+use reference::layout::{Shape, SIZE};
 use reference::random::SplitMix64;
-
-fn tape(random: &mut SplitMix64) -> Vec<u32> {
-    let mut words = vec![0; 2048];
-    random.fill(&mut words);
-    words
-}
 
 /// A sheet of n entries.
 fn sheet(seed: u64, n: usize) -> Store {
@@ -70,26 +65,6 @@ fn slots_changed() {
             store.slots[k] = if random.below(2) == 0 { 0 } else { random.entry() };
             all_calls(seed, &store);
         }
-    }
-}
-
-/// The sheet of a list, a size and random balance entries.
-fn sheet_of_size(list: &[u64], m: usize, random: &mut SplitMix64) -> Store {
-    let shape = Shape::of(m);
-    let (mut slots, mut counts) = ([0; SLOTS], [0; COUNTS]);
-    counts[SIZE] = m as u16;
-    shape.set_count(&mut counts, Node::ROOT, list.len());
-    for node in (0..shape.height).flat_map(Node::all_at) {
-        let n = shape.count(&counts, node);
-        let candidates = shape.candidate_positions(node.depth, n);
-        let balance = candidates.start + random.below(candidates.len());
-        shape.set_count(&mut counts, node.left(), balance);
-        shape.set_count(&mut counts, node.right(), n - balance);
-    }
-    shape.lay_out(Node::ROOT, &mut slots, &counts, list);
-    Store {
-        slots: slots.to_vec(),
-        counts: counts.to_vec(),
     }
 }
 

@@ -1,26 +1,10 @@
 //! Exact shares of the proved library's own stores: every course of a short
 //! history is tried, by words that decide its faces.
 
+use agreement::shares::by_course;
 use agreement::{proved, Call, Store};
 use reference::coins::{Source, Undecided};
 use reference::shares::{self, every_course, shares_by_courses, table_of, Course, SheetKey, Table};
-
-/// Draws from a course and keeps the words that decide the same faces: a face
-/// is a word below the number of faces; a draw among 1 reads none.
-struct Words<'a> {
-    course: &'a mut Course,
-    words: Vec<u32>,
-}
-
-impl Source for Words<'_> {
-    fn draw(&mut self, m: u64) -> Result<u64, Undecided> {
-        let face = self.course.draw(m)?;
-        if m > 1 {
-            self.words.push(face as u32);
-        }
-        Ok(face)
-    }
-}
 
 /// The call with this tape.
 fn with_tape(call: shares::Call, tape: Vec<u32>) -> Call {
@@ -41,22 +25,14 @@ fn key(store: &Store) -> SheetKey {
     copy.sheet()
 }
 
-/// The table of the stores that the proved calls leave. The second
-/// implementation tells only among how many faces each draw is.
+/// The table of the stores that the proved calls leave.
 fn proved_table(history: &[shares::Call]) -> Table {
     table_of(every_course(|course| {
         let mut guide = shares::Store::cleared();
         let mut store = Store::unused();
         proved::call(&Call::Clear, &mut store);
         for &call in history {
-            let mut source = Words { course: &mut *course, words: Vec::new() };
-            let number = guide.call(call, &mut source);
-            let read = source.words.len();
-            let (answer, _) = proved::call(&with_tape(call, source.words), &mut store);
-            assert_eq!(answer[0], u64::from(number));
-            if number == 0 && matches!(call, shares::Call::Insert { .. } | shares::Call::Delete { .. }) {
-                assert_eq!(answer[2], read as u64, "words read");
-            }
+            by_course(&mut store, course, |source| guide.call(call, source), |tape| with_tape(call, tape));
         }
         key(&store)
     }))

@@ -6,14 +6,20 @@ use crate::rules::{plan, Change, Plan};
 use crate::sizes::MAX_ENTRIES;
 
 /// Why a call or a line was refused. The first cause in this order decides.
-#[derive(Clone, Copy, Debug, PartialEq, Eq, PartialOrd, Ord)]
+#[derive(Clone, Copy, Debug, PartialEq, Eq)]
 pub enum Cause {
-    /// Slots not 4,224 or counts not 256.
+    /// Slots not 4,224 or counts not 256; of a timed sheet also a third slice
+    /// not of 256.
     Lengths = 1,
     /// Not a sheet by the rules.
     NotASheet = 2,
+    /// 02, F-1: "the sheet does not rise or the third slice is wrong, placed
+    /// straight after 2".
+    NotTimed = 11,
     /// Entry zero.
     EntryZero = 3,
+    /// 02, F-1: "the entry is already there", "after 3".
+    Present = 10,
     /// Rank > N (insert), ≥ N (others), or first > last.
     Rank = 4,
     /// Insert with N = 1,024.
@@ -49,6 +55,10 @@ pub enum Answer {
     Checked { n: usize },
     /// A conversion of the order of the counts: M.
     Converted { m: usize },
+    /// Find, where the entry is there: its rank.
+    Found { rank: usize },
+    /// Find, where it is not: the rank at which it would stand.
+    Absent { rank: usize },
     /// Refused; all slices are as they were.
     Refused(Cause),
 }
@@ -71,6 +81,8 @@ impl Answer {
             Answer::Placed { place, points } => [place, points],
             Answer::Checked { n } => [n, 0],
             Answer::Converted { m } => [m, 0],
+            Answer::Found { rank } => [1, rank],
+            Answer::Absent { rank } => [0, rank],
         }
     }
 }
@@ -113,7 +125,8 @@ pub fn delete(slots: &mut [u64], counts: &mut [u16], rank: usize, tape: &[u32]) 
     changed(result, &tape)
 }
 
-fn changed(result: Result<usize, Cause>, tape: &Tape) -> Answer {
+/// The answer of an insert or a delete that read from this tape.
+pub(crate) fn changed(result: Result<usize, Cause>, tape: &Tape) -> Answer {
     result
         .map(|n| Answer::Changed {
             n,
@@ -249,7 +262,10 @@ fn carry_out(old: &Shape, plan: &Plan, entry: u64, slots: &mut Slots, counts: &m
 }
 
 /// The lent slices at their right lengths, or cause 1.
-fn lent<'a>(slots: &'a [u64], counts: &'a [u16]) -> Result<(&'a Slots, &'a Counts), Cause> {
+pub(crate) fn lent<'a>(
+    slots: &'a [u64],
+    counts: &'a [u16],
+) -> Result<(&'a Slots, &'a Counts), Cause> {
     match (slots.try_into(), counts.try_into()) {
         (Ok(slots), Ok(counts)) => Ok((slots, counts)),
         _ => Err(Cause::Lengths),
@@ -267,7 +283,7 @@ fn lent_mut<'a>(
 }
 
 /// The sheet in the store, or cause 2.
-fn checked(slots: &Slots, counts: &Counts) -> Result<Sheet, Cause> {
+pub(crate) fn checked(slots: &Slots, counts: &Counts) -> Result<Sheet, Cause> {
     sheet_in(slots, counts).ok_or(Cause::NotASheet)
 }
 

@@ -251,13 +251,13 @@ impl SheetKey {
     }
 }
 
-fn without_last_zeros<T: Copy + Default + PartialEq>(values: &[T]) -> Vec<T> {
+pub(crate) fn without_last_zeros<T: Copy + Default + PartialEq>(values: &[T]) -> Vec<T> {
     let used = values.iter().rposition(|&value| value != T::default());
     values[..used.map_or(0, |last| last + 1)].to_vec()
 }
 
 /// A table of shares. A sheet that is not in it has the share 0.
-pub type Table = BTreeMap<SheetKey, Share>;
+pub type Table<Key = SheetKey> = BTreeMap<Key, Share>;
 
 /// The table of a history as it is defined: all its courses, each run from the
 /// cleared store. The courses must be few.
@@ -284,13 +284,21 @@ pub fn shares_by_calls(history: &[Call]) -> Table {
 
 /// The table after one more call.
 pub fn after_call(table: &Table, call: Call) -> Table {
+    after_step(table, |sheet, course| {
+        let mut store = sheet.store();
+        store.call(call, course);
+        store.sheet()
+    })
+}
+
+/// The table after one more step, which leads from a sheet to the next one by
+/// the faces of a course. Its draws depend on the sheet alone.
+pub fn after_step<Key: Ord>(
+    table: &Table<Key>,
+    mut step: impl FnMut(&Key, &mut Course) -> Key,
+) -> Table<Key> {
     let ends = table.iter().flat_map(|(sheet, &share)| {
-        let start = sheet.store();
-        let ends = every_course(|course| {
-            let mut store = start.clone();
-            store.call(call, course);
-            store.sheet()
-        });
+        let ends = every_course(|course| step(sheet, course));
         ends.into_iter()
             .map(move |(end, course)| (end, share * course))
     });
@@ -298,7 +306,7 @@ pub fn after_call(table: &Table, call: Call) -> Table {
 }
 
 /// Adds up the shares of equal sheets.
-pub fn table_of(ends: impl IntoIterator<Item = (SheetKey, Share)>) -> Table {
+pub fn table_of<Key: Ord>(ends: impl IntoIterator<Item = (Key, Share)>) -> Table<Key> {
     let mut table = Table::new();
     for (sheet, share) in ends {
         let sum = table.entry(sheet).or_insert(Share::ZERO);

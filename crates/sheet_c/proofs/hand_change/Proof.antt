@@ -1,6 +1,6 @@
 -- `hand_change` meets its contract.
 use borrow.Author.Needs.{needs}
-use Rattle.sheet_c.specs.HandedLaws.{handed-short, handed-done}
+use Rattle.call_handed.specs.HandedLaws.{handed-short, handed-done}
 use Rattle.sheet_c.proofs.hand_change.Statement.{statement}
 use Rattle.sheet_c.proofs.hand_change.Tie as tie
 
@@ -30,7 +30,7 @@ returns-2 c =
     let hand = c .before .before in
     let back = hand .before .before in
     let made = back .before .before .before .before .before in
-    handed-done _ _ _ _ _ _ (made .before .before .before .if1 .left) _ _ _ _ (made .make-change .ensures) _ (back .returned .ensures) _ _ (hand .hand .ensures)
+    handed-done _ _ _ _ _ _ (made .before .before .before .if1 .left) (made .make-change .ensures) (back .returned .ensures) (hand .hand .ensures)
 
 pub hand-change-spec : {M : Type 1} → statement M
 hand-change-spec =

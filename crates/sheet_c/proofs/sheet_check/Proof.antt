@@ -1,6 +1,6 @@
 -- `sheet_check` meets its contract.
 use borrow.Author.Needs.{needs}
-use Rattle.sheet_c.specs.HandedLaws.{handed-short, handed-done}
+use Rattle.call_handed.specs.HandedLaws.{handed-short, handed-done}
 use Rattle.sheet_c.proofs.sheet_check.Statement.{statement}
 use Rattle.sheet_c.proofs.sheet_check.Tie as tie
 
@@ -24,7 +24,7 @@ returns-2 c =
     let hand = c .before .before in
     let back = hand .before .before in
     let made = back .before in
-    handed-done _ _ _ _ _ _ (made .before .if1 .left) _ _ _ _ (made .check .ensures) _ (back .returned .ensures) _ _ (hand .hand .ensures)
+    handed-done _ _ _ _ _ _ (made .before .if1 .left) (made .check .ensures) (back .returned .ensures) (hand .hand .ensures)
 
 pub sheet-check-spec : {M : Type 1} → statement M
 sheet-check-spec =

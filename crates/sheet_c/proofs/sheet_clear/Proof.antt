@@ -1,6 +1,6 @@
 -- `sheet_clear` meets its contract.
 use borrow.Author.Needs.{needs}
-use Rattle.sheet_c.specs.HandedLaws.{handed-short, handed-done}
+use Rattle.call_handed.specs.HandedLaws.{handed-short, handed-done}
 use Rattle.sheet_c.proofs.sheet_clear.Statement.{statement}
 use Rattle.sheet_c.proofs.sheet_clear.Tie as tie
 
@@ -30,7 +30,7 @@ returns-2 c =
     let hand = c .before .before in
     let back = hand .before .before in
     let made = back .before .before .before .before .before in
-    handed-done _ _ _ _ _ _ (made .before .before .before .if1 .left) _ _ _ _ (made .clear .ensures) _ (back .returned .ensures) _ _ (hand .hand .ensures)
+    handed-done _ _ _ _ _ _ (made .before .before .before .if1 .left) (made .clear .ensures) (back .returned .ensures) (hand .hand .ensures)
 
 pub sheet-clear-spec : {M : Type 1} → statement M
 sheet-clear-spec =

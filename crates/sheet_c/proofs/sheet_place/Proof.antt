@@ -1,6 +1,6 @@
 -- `sheet_place` meets its contract.
 use borrow.Author.Needs.{needs}
-use Rattle.sheet_c.specs.HandedLaws.{handed-short, handed-done}
+use Rattle.call_handed.specs.HandedLaws.{handed-short, handed-done}
 use Rattle.sheet_c.proofs.sheet_place.Statement.{statement}
 use Rattle.sheet_c.proofs.sheet_place.Tie as tie
 
@@ -24,7 +24,7 @@ returns-2 c =
     let hand = c .before .before in
     let back = hand .before .before in
     let made = back .before in
-    handed-done _ _ _ _ _ _ (made .before .if1 .left) _ _ _ _ (made .place .ensures) _ (back .returned .ensures) _ _ (hand .hand .ensures)
+    handed-done _ _ _ _ _ _ (made .before .if1 .left) (made .place .ensures) (back .returned .ensures) (hand .hand .ensures)
 
 pub sheet-place-spec : {M : Type 1} → statement M
 sheet-place-spec =

@@ -1,6 +1,6 @@
 -- `sheet_read` meets its contract.
 use borrow.Author.Needs.{needs}
-use Rattle.sheet_c.specs.HandedLaws.{handed-short, handed-done}
+use Rattle.call_handed.specs.HandedLaws.{handed-short, handed-done}
 use Rattle.sheet_c.proofs.sheet_read.Statement.{statement}
 use Rattle.sheet_c.proofs.sheet_read.Tie as tie
 
@@ -27,7 +27,7 @@ returns-2 c =
     let hand = c .before .before in
     let back = hand .before .before in
     let made = back .before .before .before in
-    handed-done _ _ _ _ _ _ (made .before .before .if1 .left) _ _ _ _ (made .read .ensures) _ (back .returned .ensures) _ _ (hand .hand .ensures)
+    handed-done _ _ _ _ _ _ (made .before .before .if1 .left) (made .read .ensures) (back .returned .ensures) (hand .hand .ensures)
 
 pub sheet-read-spec : {M : Type 1} → statement M
 sheet-read-spec =

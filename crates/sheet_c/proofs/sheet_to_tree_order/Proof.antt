@@ -1,6 +1,6 @@
 -- `sheet_to_tree_order` meets its contract.
 use borrow.Author.Needs.{needs}
-use Rattle.sheet_c.specs.HandedLaws.{conversion-short, conversion-handed}
+use Rattle.sheet_c.specs.HandedCountsLaws.{conversion-short, conversion-handed}
 use Rattle.sheet_c.proofs.sheet_to_tree_order.Statement.{statement}
 use Rattle.sheet_c.proofs.sheet_to_tree_order.Tie as tie
 
@@ -27,7 +27,7 @@ returns-2 c =
     let hand = c .before .before in
     let back = hand .before .before in
     let made = back .before .before .before in
-    conversion-handed _ _ _ (made .before .before .if1 .left) _ _ (made .to-tree-order .ensures) _ (back .returned .ensures) _ _ (hand .hand .ensures)
+    conversion-handed _ _ _ (made .before .before .if1 .left) (made .to-tree-order .ensures) (back .returned .ensures) (hand .hand .ensures)
 
 pub sheet-to-tree-order-spec : {M : Type 1} → statement M
 sheet-to-tree-order-spec =

@@ -1,23 +1,18 @@
 -- `clear` meets its contract.
+use Rattle.call_outcomes.specs.DecisionLaws.{clear-refused}
+use Rattle.call_outcomes.specs.Plain.{plain}
+use Rattle.call_outcomes.specs.Clubs.{clubs}
 use Rattle.call_open.specs.OpeningLaws.{slots-wrong, counts-wrong}
-use Rattle.sheet_calls.specs.ClearLaws.{clear-wrong, clear-done}
-use Rattle.sheet_calls.specs.AtClubs.{clubs-outcome}
+use Rattle.sheet_calls.specs.ClearLaws.{clear-done}
 use borrow.Author.Needs.{needs}
 use Rattle.sheet_calls.proofs.clear.Statement.{statement}
 use Rattle.sheet_calls.proofs.clear.Tie as tie
 
-capacity-requires : tie.Need-capacity-requires
-capacity-requires c κs = search needs
-
 returns : tie.Need-returns
-returns c =
-    let is = c .before .before .capacity .ensures in
-    clubs-outcome is _ _ _ _ (clear-wrong _ _ _ (slots-wrong _ _ _ (c .if1 .taken)))
+returns c = clear-refused (plain clubs) _ _ (slots-wrong clubs _ _ (c .if1 .taken))
 
 returns-2 : tie.Need-returns-2
-returns-2 c =
-    let is = c .before .before .before .before .capacity .ensures in
-    clubs-outcome is _ _ _ _ (clear-wrong _ _ _ (counts-wrong _ _ _ (c .if2 .taken)))
+returns-2 c = clear-refused (plain clubs) _ _ (counts-wrong clubs _ _ (c .if2 .taken))
 
 zero-slots-requires : tie.Need-zero-slots-requires
 zero-slots-requires c κs = search needs
@@ -36,15 +31,12 @@ returns-3 c =
     let k = c .before .before in
     let z = k .before .before .before .before in
     let b = z .before .before in
-    let a = b .before .before in
-    let is = a .before .before .capacity .ensures in
-    clubs-outcome is _ _ _ _ (clear-done _ _ _ _ _ (a .if1 .left) (b .if2 .left) (z .zero-slots .ensures) (k .zero-counts .ensures))
+    clear-done _ _ (b .before .if1 .left) (b .if2 .left) (z .zero-slots .ensures) (k .zero-counts .ensures)
 
 pub clear-spec : {M : Type 1} → statement M
 clear-spec =
     tie.close
     (tie.spec
-    capacity-requires
     returns
     returns-2
     zero-slots-requires

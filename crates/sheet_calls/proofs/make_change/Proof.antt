@@ -1,21 +1,29 @@
 -- `make_change` meets its contract.
-use mathlib.Core.Path.{refl, sym, _∙_}
-use Rattle.call_outcomes.specs.Plain.{plainChange}
-use Rattle.call_open.specs.AdmittedLaws.{found-sheet, call-admitted, call-refused}
-use Rattle.sheet_change.specs.ClubsReady.{clubs-ready}
-use Rattle.sheet_calls.specs.AtClubs.{clubs-change}
+use mathlib.Core.Path.{_≡_, refl, sym, _∙_}
+use denote.Ref.{now}
+use Rattle.call_outcomes.specs.Causes.{decision}
+use Rattle.call_outcomes.specs.Plain.{plainChange, changeCause, plain, changing, storeOf}
+use Rattle.call_outcomes.specs.Clubs.{clubs}
+use Rattle.call_open.specs.Opening.{openedAs}
+use Rattle.call_open.specs.AdmittedLaws.{found-sheet, change-opened, call-admitted, call-refused}
 use borrow.Author.Needs.{needs}
 use Rattle.sheet_calls.proofs.make_change.Statement.{statement}
 use Rattle.sheet_calls.proofs.make_change.Tie as tie
 
-capacity-requires : tie.Need-capacity-requires
-capacity-requires c κs = search needs
+-- What is left of the look at the store decides the call.
+left : (c : tie.After-admit-change)
+    → let a = c .before .before .before .before .before .before .before .before .before .args in
+    c .admit-change .result ≡ openedAs (decision (plain clubs) (changing (a .change) (a .entry)) (storeOf (now (a .slots)) (now (a .counts))))
+left c =
+    let a = c .before .before .before .before .before .before .before .before .before .args in
+    let made = plainChange (a .change) (a .entry) in
+    change-opened (plain clubs) _ (c .before .before .examine .ensures .found) (changeCause 1024 made) made (λ list. refl) (c .admit-change .ensures)
 
 slice-aggregate-examine : tie.Need-slice-aggregate-examine
 slice-aggregate-examine c = search needs
 
 examine-requires : tie.Need-examine-requires
-examine-requires c κs = rw (c .before .before .before .capacity .ensures) (clubs-ready, refl)
+examine-requires c κs = refl
 
 admit-change-requires : tie.Need-admit-change-requires
 admit-change-requires c κs = search needs
@@ -23,22 +31,22 @@ admit-change-requires c κs = search needs
 enum-known-n : tie.Need-enum-known-n
 enum-known-n c = search needs
 
-slice-aggregate-change : tie.Need-slice-aggregate-change
-slice-aggregate-change c = search needs
+slice-aggregate-make : tie.Need-slice-aggregate-make
+slice-aggregate-make c = search needs
 
-change-requires : tie.Need-change-requires
-change-requires c κs =
+make-requires : tie.Need-make-requires
+make-requires c κs =
     let n = c .before .before .before .before in
     let a = n .before .before in
     let x = a .before .before in
     let w = x .examine .ensures in
-    let is = x .before .before .before .before .capacity .ensures in
-    let given = x .before .before .before .before .before .before .before .before .args in
-    let after = clubs-change is w (plainChange (given .change) (given .entry)) (a .admit-change .ensures) in
     record {
-      admitted = call-admitted _ _ _ after (n .n .given .1);
+      admitted = call-admitted _ _ _ (left a) (n .n .given .1);
       copied = w .copied (found-sheet _ _ (sym (a .admit-change .ensures) ∙ n .n .given .1));
     }
+
+answer-requires : tie.Need-answer-requires
+answer-requires c κs = search needs
 
 enum-known-cause : tie.Need-enum-known-cause
 enum-known-cause c = search needs
@@ -50,7 +58,7 @@ same-length-2 : tie.Need-same-length-2
 same-length-2 c = search needs
 
 returns : tie.Need-returns
-returns c = search needs
+returns c = rw (c .answer .ensures) (c .before .before .before .before .before .before .make .ensures)
 
 same-length-3 : tie.Need-same-length-3
 same-length-3 c = search needs
@@ -62,23 +70,19 @@ returns-2 : tie.Need-returns-2
 returns-2 c =
     let n = c .before in
     let a = n .before .before in
-    let x = a .before .before in
-    let is = x .before .before .before .before .capacity .ensures in
-    let given = x .before .before .before .before .before .before .before .before .args in
-    let after = clubs-change is (x .examine .ensures) (plainChange (given .change) (given .entry)) (a .admit-change .ensures) in
-    call-refused _ _ _ after _ _ (n .cause .given .1)
+    call-refused _ _ _ (left a) _ _ (n .cause .given .1)
 
 pub make-change-spec : {M : Type 1} → statement M
 make-change-spec =
     tie.close
     (tie.spec
-    capacity-requires
     slice-aggregate-examine
     examine-requires
     admit-change-requires
     enum-known-n
-    slice-aggregate-change
-    change-requires
+    slice-aggregate-make
+    make-requires
+    answer-requires
     enum-known-cause
     same-length
     same-length-2

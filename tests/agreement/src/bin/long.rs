@@ -1,9 +1,9 @@
 //! usage: long [MINUTES [SEED]]
-//! Random histories of calls and of lines, one of each for a seed, until the
-//! time is over; the first seed is the time unless it is given.
+//! Random histories of calls, plain and timed, and of lines, one of each for a
+//! seed, until the time is over; the first seed is the time unless it is given.
 
 use agreement::histories::{self, BORDER, FULL, SHORT};
-use agreement::{lines, program};
+use agreement::{lines, program, timed_histories};
 use std::env;
 use std::process::exit;
 use std::time::{Duration, Instant, SystemTime};
@@ -36,6 +36,7 @@ fn main() {
         let (name, targets) = [("short", SHORT), ("border", BORDER), ("full", FULL)][(seed % 3) as usize];
         println!("seed {seed}, {name}");
         calls += histories::history(seed, LENGTH, targets).iter().sum::<u64>();
+        calls += timed_histories::history(seed, LENGTH, targets).iter().sum::<u64>();
         answered += program::agrees(seed, &lines::history(seed, LENGTH, targets)).lines;
         seed += 1;
     }

@@ -7,6 +7,8 @@ use reference::coins::{Source, Undecided};
 use reference::layout::{COUNTS, SLOTS};
 use reference::random::SplitMix64;
 use reference::shares::Store;
+use reference::timed::{self, Balance, BALANCE};
+use reference::timed_shares::Store as TimedStore;
 use std::cmp::Ordering;
 use std::collections::BTreeMap;
 
@@ -138,6 +140,35 @@ fn lay_out_range(
     let (left, right) = list.split_at(first_candidate(n, c) - 1 + chosen);
     lay_out_range(store, order, m, 2 * range, depth + 1, left, balance);
     lay_out_range(store, order, m, 2 * range + 1, depth + 1, right, balance);
+}
+
+/// A list laid out with its third slice: a timed sheet, if the list rises.
+pub fn lay_out_timed(
+    list: &[u64],
+    m: usize,
+    balance: impl FnMut(usize, usize, usize) -> usize,
+) -> TimedStore {
+    with_third_slice(lay_out(list, m, balance))
+}
+
+/// A sheet with the third slice that belongs to it (02, F-1).
+pub fn with_third_slice(plain: Store) -> TimedStore {
+    let list: Vec<u64> = plain.slots.iter().copied().filter(|&e| e != 0).collect();
+    let mut balance = Box::new([0; BALANCE]);
+    split_range(&plain, 1, 0, &list, &mut balance);
+    TimedStore { plain, balance }
+}
+
+/// Splits the list of a range by its counts; the right half begins with the
+/// balance entry.
+fn split_range(store: &Store, range: usize, depth: usize, list: &[u64], balance: &mut Balance) {
+    if depth == height(m(store)) {
+        return;
+    }
+    let (left, right) = list.split_at(count(store, 2 * range));
+    balance[range] = right[0];
+    split_range(store, 2 * range, depth + 1, left, balance);
+    split_range(store, 2 * range + 1, depth + 1, right, balance);
 }
 
 /// Whether some list, size and balance entries lay out exactly this store.
@@ -334,6 +365,18 @@ impl Model {
         store
     }
 
+    /// The timed store of this sheet, whose list rises.
+    pub fn timed_store(&self) -> TimedStore {
+        let mut balance = Box::new([0; BALANCE]);
+        for (&range, &name) in &self.balance {
+            balance[range] = self.list[position(&self.list, name)].entry;
+        }
+        TimedStore {
+            plain: self.store(),
+            balance,
+        }
+    }
+
     fn write(&self, store: &mut Store, order: Order, range: usize, depth: usize, list: &[Named]) {
         store.counts[order.place(range, self.m)] = list.len() as u16;
         if depth == height(self.m) {
@@ -427,6 +470,28 @@ pub fn list(store: &Store) -> Vec<u64> {
         assert_eq!(answer, Answer::Read { entries: n });
     }
     list
+}
+
+pub fn timed_insert(store: &mut TimedStore, entry: u64, tape: &[u32]) -> Answer {
+    let TimedStore { plain, balance } = store;
+    let (slots, counts) = (&mut plain.slots[..], &mut plain.counts[..]);
+    timed::insert(slots, counts, &mut balance[..], entry, tape)
+}
+
+pub fn timed_delete(store: &mut TimedStore, rank: usize, tape: &[u32]) -> Answer {
+    let TimedStore { plain, balance } = store;
+    let (slots, counts) = (&mut plain.slots[..], &mut plain.counts[..]);
+    timed::delete(slots, counts, &mut balance[..], rank, tape)
+}
+
+pub fn timed_find(store: &TimedStore, entry: u64) -> Answer {
+    let TimedStore { plain, balance } = store;
+    timed::find(&plain.slots[..], &plain.counts[..], &balance[..], entry)
+}
+
+pub fn timed_check(store: &TimedStore) -> Answer {
+    let TimedStore { plain, balance } = store;
+    timed::check(&plain.slots[..], &plain.counts[..], &balance[..])
 }
 
 /// Slices of any lengths, for calls that must refuse them.

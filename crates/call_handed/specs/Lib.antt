@@ -1,0 +1,3 @@
+-- The calls of any kind of sheet as C programs make them.
+pub mod Handed
+pub mod HandedLaws

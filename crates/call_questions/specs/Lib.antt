@@ -1,0 +1,5 @@
+-- Questions answered by what a store was found to hold: definitions first, then their laws.
+pub mod Asked
+pub mod AskedLaws
+pub mod AnswerLaws
+pub mod ReadLaws

@@ -1,0 +1,5 @@
+-- Timed sheets: definitions first, then their laws.
+pub mod Timed
+pub mod Third
+pub mod TimedLaws
+pub mod ThirdLaws

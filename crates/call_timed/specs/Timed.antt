@@ -1,0 +1,163 @@
+-- Timed sheets (document 02, F-1), for any capacity: a store of three slices, whose entries rise. Definitions only.
+use mathlib.Core.Bool.{Bool, true, false, _&&_}
+use mathlib.Core.List.{List, []}
+use mathlib.Core.Option.{Option, none}
+use mathlib.Core.Path.{_≡_}
+use Prim.Native.Nat.{ℕ}
+use lib.Dec.{eqb, leb}
+use lib.ListN.{length}
+use Rattle.base.specs.Lists.{equalLists}
+use Rattle.tree_rules.specs.Tree.{Shape}
+use Rattle.store_layout.specs.declared.Capacity.{Capacity}
+use Rattle.store_layout.specs.Layout.{Store, layOut}
+use Rattle.store_layout.specs.Decode.{Contents}
+use Rattle.store_keys.specs.Key.{key, Rises, rises, rankOf, present}
+use Rattle.store_balance.specs.Balance.{layBalance}
+use Rattle.call_outcomes.specs.declared.Cause.{Cause}
+use Rattle.call_outcomes.specs.declared.Cause.the-variants.{NotTimed, EntryZero, EntryPresent, Full}
+use Rattle.call_outcomes.specs.declared.Answer.{Answer}
+use Rattle.call_outcomes.specs.declared.Answer.the-variants.{Present, Absent}
+use Rattle.call_outcomes.specs.Kind.{Found, holds, wrong, View, Calls, CallOf, change, ask, Kind}
+use Rattle.call_outcomes.specs.Causes.{firstOf}
+use Rattle.call_outcomes.specs.Outcome.{Outcome}
+use Rattle.call_outcomes.specs.Plain.{IsList, RightLengths, rightLengths, equalStores, plainView, PlainChange, insertAt, deleteAt, changeCause, editOf, Question, readRanks, placeOf, countOf, questionCause, replyTo, writtenFor, storeOf}
+
+-- ---- the store
+
+-- The store: a plain store, and the third slice.
+pub record TimedStore : Type 0 where
+  pub sheet : Store
+  pub balance : List ℕ
+
+-- A list that a timed sheet can hold: one of a plain sheet, which rises.
+pub record IsTimedList (cap : Capacity) (list : List ℕ) : Type 0 where
+  pub plain : IsList cap list
+  pub rising : Rises list
+
+-- The timed sheet of a list with a shape. The third slice is as long as the counts.
+unfoldable pub layTimed : Capacity → List ℕ → Shape → TimedStore
+layTimed cap list s = record { sheet = layOut cap list s; balance = layBalance (cap .counts) list s }
+
+-- The three slices have the right lengths, and the test of that.
+pub record TimedLengths (cap : Capacity) (store : TimedStore) : Type 0 where
+  pub plain : RightLengths cap (store .sheet)
+  pub balance : length (store .balance) ≡ cap .counts
+
+unfoldable pub timedLengths : Capacity → TimedStore → Bool
+timedLengths cap store = rightLengths cap (store .sheet) && eqb (length (store .balance)) (cap .counts)
+
+-- The list rises, and the third slice is that of the list with the shape.
+unfoldable pub timedTest : Capacity → List ℕ → Contents → Bool
+timedTest cap balance c = rises (c .list) && equalLists balance (layBalance (cap .counts) (c .list) (c .shape))
+
+unfoldable pub timedBy : Bool → Contents → Found
+timedBy true c = holds c
+timedBy false c = wrong NotTimed
+
+-- Cause 2 where slots and counts are no plain sheet, then cause 11.
+unfoldable pub foundTimed : Capacity → List ℕ → Found → Found
+foundTimed cap balance (wrong cause) = wrong cause
+foundTimed cap balance (holds c) = timedBy (timedTest cap balance c) c
+
+-- Every slot, every count and every word of the third slice are the same.
+unfoldable pub equalTimed : TimedStore → TimedStore → Bool
+equalTimed a b = equalStores (a .sheet) (b .sheet) && equalLists (a .balance) (b .balance)
+
+abbrev pub timedView : Capacity → View
+timedView cap = record {
+  Store = TimedStore;
+  IsList = IsTimedList cap;
+  lay = layTimed cap;
+  rightLengths = timedLengths cap;
+  decode = λ store. foundTimed cap (store .balance) (plainView cap .decode (store .sheet));
+  equal = equalTimed;
+}
+
+-- ---- insert by entry, and delete by rank
+
+pub data TimedChange : Type 0 where
+  insertEntry : (entry : ℕ) → TimedChange
+  deleteRank : (rank : ℕ) → TimedChange
+
+-- The change of a plain sheet with this list that it is: an entry comes in at the rank of its key.
+unfoldable pub plainly : TimedChange → List ℕ → PlainChange
+plainly (insertEntry e) list = insertAt (rankOf (key e) list) e
+plainly (deleteRank i) list = deleteAt i
+
+-- The causes 3, 10 and 5 of an insert, and the cause 4 of a delete, where there is room for `entries`.
+unfoldable pub timedChangeCause : ℕ → TimedChange → List ℕ → Option Cause
+timedChangeCause entries (insertEntry e) list =
+    firstOf (eqb (key e) 0) EntryZero (firstOf (present (key e) list) EntryPresent (firstOf (leb entries (length list)) Full none))
+timedChangeCause entries (deleteRank i) list = changeCause entries (deleteAt i) (length list)
+
+-- ---- find, and the questions about a plain sheet
+
+pub data TimedQuestion : Type 0 where
+  findEntry : (entry : ℕ) → TimedQuestion
+  asPlain : Question → TimedQuestion
+
+-- The cause 3 of a find; and those of a plain sheet.
+unfoldable pub timedQuestionCause : TimedQuestion → List ℕ → Option Cause
+timedQuestionCause (findEntry e) list = firstOf (eqb (key e) 0) EntryZero none
+timedQuestionCause (asPlain q) list = questionCause q (length list)
+
+-- The rank of an entry with this key, or that there is none, with the rank at which it would stand.
+unfoldable pub foundAt : Bool → ℕ → Answer
+foundAt true rank = Present rank
+foundAt false rank = Absent rank
+
+unfoldable pub timedReply : TimedQuestion → List ℕ → Answer
+timedReply (findEntry e) list = foundAt (present (key e) list) (rankOf (key e) list)
+timedReply (asPlain q) list = replyTo q list
+
+unfoldable pub timedWritten : TimedQuestion → List ℕ → List ℕ
+timedWritten (findEntry e) list = []
+timedWritten (asPlain q) list = writtenFor q list
+
+-- ---- the kind
+
+abbrev pub timedCalls : ℕ → Calls
+timedCalls entries = record {
+  ChangeCall = TimedChange;
+  Question = TimedQuestion;
+  changeCause = timedChangeCause entries;
+  edit = λ c list. editOf (plainly c list);
+  questionCause = timedQuestionCause;
+  reply = timedReply;
+  written = timedWritten;
+}
+
+abbrev pub timed : Capacity → Kind
+timed cap = record { view = timedView cap; calls = timedCalls (cap .entries) }
+
+-- The seven calls; clear is the one of every kind.
+abbrev pub TimedCall : Type 0
+TimedCall = CallOf TimedChange TimedQuestion
+
+abbrev pub insert : ℕ → TimedCall
+insert entry = change (insertEntry entry)
+
+abbrev pub delete : ℕ → TimedCall
+delete rank = change (deleteRank rank)
+
+abbrev pub find : ℕ → TimedCall
+find entry = ask (findEntry entry)
+
+abbrev pub read : ℕ → ℕ → ℕ → TimedCall
+read first last room = ask (asPlain (readRanks first last room))
+
+abbrev pub place : ℕ → TimedCall
+place rank = ask (asPlain (placeOf rank))
+
+abbrev pub check : TimedCall
+check = ask (asPlain countOf)
+
+-- ---- the slices
+
+-- The three lent slices as a store.
+abbrev pub timedStoreOf : List ℕ → List ℕ → List ℕ → TimedStore
+timedStoreOf slots counts balance = record { sheet = storeOf slots counts; balance = balance }
+
+-- What a call leaves in the slices that it was lent.
+abbrev pub timedOutcomeOf : Answer → List ℕ → List ℕ → List ℕ → List ℕ → Outcome TimedStore
+timedOutcomeOf answer slots counts balance output = record { answer = answer; store = timedStoreOf slots counts balance; output = output }

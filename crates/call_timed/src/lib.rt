@@ -1,0 +1,1 @@
+// Timed sheets: definitions and laws alone.

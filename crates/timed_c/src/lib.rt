@@ -1,0 +1,158 @@
+// The calls of timed sheets for programs in C: the number of the cause is returned, and the two values stand in an answer slice.
+ghost use mathlib.Core.Path.{_≡_};
+ghost use mathlib.Core.List.{[]};
+ghost use lib.ListN.{length};
+ghost use Rattle.call_outcomes.specs.Kind.{clear};
+ghost use Rattle.call_outcomes.specs.Clubs.{clubs};
+ghost use Rattle.call_handed.specs.Handed.{handed};
+ghost use Rattle.call_timed.specs.Timed as call;
+ghost use Rattle.call_timed.specs.Timed.{timed, timedStoreOf};
+
+// Makes any contents the empty timed sheet.
+#[no_mangle]
+pub extern "C" fn timed_clear(
+    slots: &mut [u64],
+    counts: &mut [u16],
+    balance: &mut [u64],
+    answer: &mut [u64],
+) -> usize
+    ensures { λ r. ⌜ record { number = r; store = timedStoreOf (now (slots .exit)) (now (counts .exit)) (now (balance .exit)); output = []; answer = now (answer .exit) }
+        ≡ handed (timed clubs) clear [] (timedStoreOf (now (slots .entry)) (now (counts .entry)) (now (balance .entry))) [] (now (answer .entry)) ⌝ }
+{
+    if answer.len() < 2 {
+        return 255;
+    }
+    call_handed::hand(
+        timed_calls::clear(slots, counts, balance).returned(),
+        answer,
+    )
+}
+
+// Puts the entry in at the rank of its key.
+#[no_mangle]
+pub extern "C" fn timed_insert(
+    slots: &mut [u64],
+    counts: &mut [u16],
+    balance: &mut [u64],
+    entry: u64,
+    tape: &[u32],
+    answer: &mut [u64],
+) -> usize
+    ensures { λ r. ⌜ record { number = r; store = timedStoreOf (now (slots .exit)) (now (counts .exit)) (now (balance .exit)); output = []; answer = now (answer .exit) }
+        ≡ handed (timed clubs) (call.insert entry) (now (tape .entry)) (timedStoreOf (now (slots .entry)) (now (counts .entry)) (now (balance .entry))) [] (now (answer .entry)) ⌝ }
+{
+    if answer.len() < 2 {
+        return 255;
+    }
+    call_handed::hand(
+        timed_calls::insert(slots, counts, balance, entry, tape).returned(),
+        answer,
+    )
+}
+
+// Takes the entry at the rank out.
+#[no_mangle]
+pub extern "C" fn timed_delete(
+    slots: &mut [u64],
+    counts: &mut [u16],
+    balance: &mut [u64],
+    rank: usize,
+    tape: &[u32],
+    answer: &mut [u64],
+) -> usize
+    ensures { λ r. ⌜ record { number = r; store = timedStoreOf (now (slots .exit)) (now (counts .exit)) (now (balance .exit)); output = []; answer = now (answer .exit) }
+        ≡ handed (timed clubs) (call.delete rank) (now (tape .entry)) (timedStoreOf (now (slots .entry)) (now (counts .entry)) (now (balance .entry))) [] (now (answer .entry)) ⌝ }
+{
+    if answer.len() < 2 {
+        return 255;
+    }
+    call_handed::hand(
+        timed_calls::delete(slots, counts, balance, rank, tape).returned(),
+        answer,
+    )
+}
+
+// Whether an entry with the key is there, and its rank, or the rank at which it would stand.
+#[no_mangle]
+pub extern "C" fn timed_find(
+    slots: &[u64],
+    counts: &[u16],
+    balance: &[u64],
+    entry: u64,
+    answer: &mut [u64],
+) -> usize
+    ensures { λ r. ⌜ record { number = r; store = timedStoreOf (now (slots .entry)) (now (counts .entry)) (now (balance .entry)); output = []; answer = now (answer .exit) }
+        ≡ handed (timed clubs) (call.find entry) [] (timedStoreOf (now (slots .entry)) (now (counts .entry)) (now (balance .entry))) [] (now (answer .entry)) ⌝ }
+{
+    if answer.len() < 2 {
+        return 255;
+    }
+    call_handed::hand(
+        timed_calls::find(slots, counts, balance, entry).returned(),
+        answer,
+    )
+}
+
+// Copies the entries of ranks first to last to the front of the output.
+#[no_mangle]
+pub extern "C" fn timed_read(
+    slots: &[u64],
+    counts: &[u16],
+    balance: &[u64],
+    first: usize,
+    last: usize,
+    output: &mut [u64],
+    answer: &mut [u64],
+) -> usize
+    ensures { λ r. ⌜ record { number = r; store = timedStoreOf (now (slots .entry)) (now (counts .entry)) (now (balance .entry)); output = now (output .exit); answer = now (answer .exit) }
+        ≡ handed (timed clubs) (call.read first last (length (now (output .entry)))) [] (timedStoreOf (now (slots .entry)) (now (counts .entry)) (now (balance .entry))) (now (output .entry)) (now (answer .entry)) ⌝ }
+{
+    if answer.len() < 2 {
+        return 255;
+    }
+    call_handed::hand(
+        timed_calls::read(slots, counts, balance, first, last, output).returned(),
+        answer,
+    )
+}
+
+// The place of the entry at the rank, and its points.
+#[no_mangle]
+pub extern "C" fn timed_place(
+    slots: &[u64],
+    counts: &[u16],
+    balance: &[u64],
+    rank: usize,
+    answer: &mut [u64],
+) -> usize
+    ensures { λ r. ⌜ record { number = r; store = timedStoreOf (now (slots .entry)) (now (counts .entry)) (now (balance .entry)); output = []; answer = now (answer .exit) }
+        ≡ handed (timed clubs) (call.place rank) [] (timedStoreOf (now (slots .entry)) (now (counts .entry)) (now (balance .entry))) [] (now (answer .entry)) ⌝ }
+{
+    if answer.len() < 2 {
+        return 255;
+    }
+    call_handed::hand(
+        timed_calls::place(slots, counts, balance, rank).returned(),
+        answer,
+    )
+}
+
+// The number of entries of a timed sheet.
+#[no_mangle]
+pub extern "C" fn timed_check(
+    slots: &[u64],
+    counts: &[u16],
+    balance: &[u64],
+    answer: &mut [u64],
+) -> usize
+    ensures { λ r. ⌜ record { number = r; store = timedStoreOf (now (slots .entry)) (now (counts .entry)) (now (balance .entry)); output = []; answer = now (answer .exit) }
+        ≡ handed (timed clubs) call.check [] (timedStoreOf (now (slots .entry)) (now (counts .entry)) (now (balance .entry))) [] (now (answer .entry)) ⌝ }
+{
+    if answer.len() < 2 {
+        return 255;
+    }
+    call_handed::hand(
+        timed_calls::check(slots, counts, balance).returned(),
+        answer,
+    )
+}

@@ -1,0 +1,182 @@
+-- `insert` meets its contract.
+use mathlib.Core.Path.{_≡_, refl, sym, _∙_}
+use mathlib.Core.Logic.{_≢_}
+use denote.Ref.{now}
+use Rattle.tree_rules.specs.declared.Change.the-variants.{Insert}
+use Rattle.store_keys.specs.Key.{key}
+use Rattle.call_outcomes.specs.Causes.{accept, lookedAt, decision}
+use Rattle.call_outcomes.specs.Plain.{plainChange}
+use Rattle.call_outcomes.specs.Clubs.{clubs}
+use Rattle.call_timed.specs.Timed.{insertEntry, plainly, timed, insert, timedStoreOf}
+use Rattle.timed_open.specs.TimedOpening.{OpenedTimed}
+use Rattle.timed_calls.specs.SheetLaws.{held, search-ready}
+use Rattle.timed_calls.specs.EntryLaws.{store-refused, change-ready, change-done, insert-zero, insert-present, insert-full, insert-decided, insert-plainly}
+use borrow.Author.Needs.{needs}
+use Rattle.timed_calls.proofs.insert.Statement.{statement}
+use Rattle.timed_calls.proofs.insert.Tie as tie
+
+-- The store is a timed sheet with these numbers.
+sheet : (c : tie.After-n)
+    → let a = c .before .before .before .before .before .before .before .before .before .before .before .before .args in
+    OpenedTimed clubs (timedStoreOf (now (a .slots)) (now (a .counts)) (now (a .balance))) (c .n .given .0 .0) (c .n .given .0 .1 .0)
+    (c .before .before .before .examine .last .1 .1 .1 .0)
+sheet c = c .before .before .before .examine .ensures .sheet _ _ (c .n .given .1)
+
+-- The key is not 0.
+some-key : (c : tie.Else1) → key (c .before .before .before .before .before .before .before .before .before .before .before .before .before .before .before .args .entry) ≢ 0
+some-key c z = c .if1 .left (c .before .key .ensures ∙ z)
+
+-- No cause before 7 refuses the insert, which is that of the plain sheet at the rank found.
+decided : (c : tie.Else3)
+    → let n = c .before .before .before .before .before .before .before .before .before in
+    let a = n .before .before .before .before .before .before .before .before .before .before .before .before .args in
+    decision (timed clubs) (insert (a .entry)) (timedStoreOf (now (a .slots)) (now (a .counts)) (now (a .balance))) ≡ accept (sheet n .contents)
+decided c =
+    let s = c .before .before in
+    let k = s .before .before .before .before in
+    insert-decided (sheet (k .before .before .before)) _ (some-key k) _ (s .search .ensures) (c .before .if2 .left) (c .if3 .left)
+
+plainly-is : (c : tie.Else3)
+    → let n = c .before .before .before .before .before .before .before .before .before in
+    let e = n .before .before .before .before .before .before .before .before .before .before .before .before .args .entry in
+    plainly (insertEntry e) (sheet n .contents .list) ≡ plainChange (Insert (c .before .before .search .result .rank)) e
+plainly-is c =
+    let s = c .before .before in
+    let k = s .before .before .before .before in
+    insert-plainly (sheet (k .before .before .before)) _ (some-key k) _ (s .search .ensures) (c .before .if2 .left)
+
+slice-aggregate-examine : tie.Need-slice-aggregate-examine
+slice-aggregate-examine c = search needs
+
+examine-requires : tie.Need-examine-requires
+examine-requires c κs = refl
+
+enum-known-n : tie.Need-enum-known-n
+enum-known-n c = search needs
+
+key-requires : tie.Need-key-requires
+key-requires c κs = search needs
+
+same-length : tie.Need-same-length
+same-length c = search needs
+
+same-length-2 : tie.Need-same-length-2
+same-length-2 c = search needs
+
+same-length-3 : tie.Need-same-length-3
+same-length-3 c = search needs
+
+returns : tie.Need-returns
+returns c = let k = c .before in insert-zero (sheet (k .before .before)) _ _ (sym (k .key .ensures) ∙ c .if1 .taken)
+
+slice-aggregate-search : tie.Need-slice-aggregate-search
+slice-aggregate-search c = search needs
+
+search-requires : tie.Need-search-requires
+search-requires c κs = search-ready (sheet (c .before .before .before .before .before .before))
+
+same-length-4 : tie.Need-same-length-4
+same-length-4 c = search needs
+
+same-length-5 : tie.Need-same-length-5
+same-length-5 c = search needs
+
+same-length-6 : tie.Need-same-length-6
+same-length-6 c = search needs
+
+returns-2 : tie.Need-returns-2
+returns-2 c =
+    let s = c .before in
+    let k = s .before .before .before .before in
+    insert-present (sheet (k .before .before .before)) _ (some-key k) _ (s .search .ensures) _ (c .if2 .taken)
+
+same-length-7 : tie.Need-same-length-7
+same-length-7 c = search needs
+
+same-length-8 : tie.Need-same-length-8
+same-length-8 c = search needs
+
+same-length-9 : tie.Need-same-length-9
+same-length-9 c = search needs
+
+returns-3 : tie.Need-returns-3
+returns-3 c =
+    let s = c .before .before in
+    let k = s .before .before .before .before in
+    insert-full (sheet (k .before .before .before)) _ (some-key k) _ (s .search .ensures) (c .before .if2 .left) _ (c .if3 .taken)
+
+slice-aggregate-change : tie.Need-slice-aggregate-change
+slice-aggregate-change c = search needs
+
+change-requires : tie.Need-change-requires
+change-requires c κs =
+    let d = c .before .before .before .before in
+    let n = d .before .before .before .before .before .before .before .before .before in
+    (change-ready (sheet n) (insertEntry _) (Insert _) _ (plainly-is d) (decided d), held (sheet n) .lengths .balance)
+
+enum-known-cause : tie.Need-enum-known-cause
+enum-known-cause c = search needs
+
+same-length-10 : tie.Need-same-length-10
+same-length-10 c = search needs
+
+same-length-11 : tie.Need-same-length-11
+same-length-11 c = search needs
+
+same-length-12 : tie.Need-same-length-12
+same-length-12 c = search needs
+
+returns-4 : tie.Need-returns-4
+returns-4 c =
+    let m = c .before .before .before .before .before .before .before in
+    let d = m .before .before .before .before .before in
+    change-done (sheet (d .before .before .before .before .before .before .before .before .before)) (insertEntry _) (Insert _) _ (plainly-is d) (decided d) _ (m .change .ensures)
+
+same-length-13 : tie.Need-same-length-13
+same-length-13 c = search needs
+
+same-length-14 : tie.Need-same-length-14
+same-length-14 c = search needs
+
+same-length-15 : tie.Need-same-length-15
+same-length-15 c = search needs
+
+returns-5 : tie.Need-returns-5
+unfolding lookedAt
+returns-5 c =
+    let k = c .before in
+    store-refused _ _ _ (insert _) refl _ (k .before .before .before .examine .ensures .found) (k .cause .given .1)
+
+pub insert-spec : {M : Type 1} → statement M
+insert-spec =
+    tie.close
+    (tie.spec
+    slice-aggregate-examine
+    examine-requires
+    enum-known-n
+    key-requires
+    same-length
+    same-length-2
+    same-length-3
+    returns
+    slice-aggregate-search
+    search-requires
+    same-length-4
+    same-length-5
+    same-length-6
+    returns-2
+    same-length-7
+    same-length-8
+    same-length-9
+    returns-3
+    slice-aggregate-change
+    change-requires
+    enum-known-cause
+    same-length-10
+    same-length-11
+    same-length-12
+    returns-4
+    same-length-13
+    same-length-14
+    same-length-15
+    returns-5)

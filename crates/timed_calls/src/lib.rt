@@ -1,0 +1,146 @@
+// The clubs' timed sheet: seven calls on a store of three lent slices.
+ghost use mathlib.Core.Path.{_≡_};
+ghost use mathlib.Core.List.{[]};
+ghost use lib.ListN.{length};
+ghost use Rattle.call_outcomes.specs.Kind.{clear};
+ghost use Rattle.call_outcomes.specs.Outcome.{outcome};
+ghost use Rattle.call_outcomes.specs.Clubs.{clubs};
+ghost use Rattle.call_timed.specs.Timed as call;
+ghost use Rattle.call_timed.specs.Timed.{timed, timedStoreOf, timedOutcomeOf};
+use call_open::Opened;
+use call_outcomes::Answer;
+use call_outcomes::Cause;
+use tree_rules::Change;
+use tree_sizes::Size;
+
+// Makes any contents the empty sheet.
+pub fn clear(slots: &mut [u64], counts: &mut [u16], balance: &mut [u64]) -> Answer
+    ensures { λ r. ⌜ timedOutcomeOf r (now (slots .exit)) (now (counts .exit)) (now (balance .exit)) []
+        ≡ outcome (timed clubs) clear [] (timedStoreOf (now (slots .entry)) (now (counts .entry)) (now (balance .entry))) [] ⌝ }
+{
+    if slots.len() != 4224 {
+        return Answer::Refused(Cause::Lengths);
+    }
+    if counts.len() != 256 {
+        return Answer::Refused(Cause::Lengths);
+    }
+    if balance.len() != 256 {
+        return Answer::Refused(Cause::Lengths);
+    }
+    store_slices::zero_slots(slots, 0, 4224);
+    store_counts::zero_counts(counts);
+    store_slices::zero_slots(balance, 0, 256);
+    Answer::Cleared
+}
+
+// Puts the entry in at the rank of its key.
+pub fn insert(
+    slots: &mut [u64],
+    counts: &mut [u16],
+    balance: &mut [u64],
+    entry: u64,
+    tape: &[u32],
+) -> Answer
+    ensures { λ r. ⌜ timedOutcomeOf r (now (slots .exit)) (now (counts .exit)) (now (balance .exit)) []
+        ≡ outcome (timed clubs) (call.insert entry) (now (tape .entry)) (timedStoreOf (now (slots .entry)) (now (counts .entry)) (now (balance .entry))) [] ⌝ }
+{
+    let mut work = [0u32; 256];
+    match timed_open::examine(slots, counts, balance, &mut work) {
+        Opened::Sheet { n, m } => {
+            if store_keys::key(entry) == 0 {
+                return Answer::Refused(Cause::EntryZero);
+            }
+            let sought = store_search::search(Size { m: m }, slots, &work, balance, entry);
+            if sought.present {
+                return Answer::Refused(Cause::EntryPresent);
+            }
+            if 1024 <= n {
+                return Answer::Refused(Cause::Full);
+            }
+            let change = Change::Insert(sought.rank);
+            timed_change::change(slots, counts, balance, &mut work, n, m, change, entry, tape)
+        }
+        Opened::Refused(cause) => Answer::Refused(cause),
+    }
+}
+
+// Takes the entry at the rank out.
+pub fn delete(
+    slots: &mut [u64],
+    counts: &mut [u16],
+    balance: &mut [u64],
+    rank: usize,
+    tape: &[u32],
+) -> Answer
+    ensures { λ r. ⌜ timedOutcomeOf r (now (slots .exit)) (now (counts .exit)) (now (balance .exit)) []
+        ≡ outcome (timed clubs) (call.delete rank) (now (tape .entry)) (timedStoreOf (now (slots .entry)) (now (counts .entry)) (now (balance .entry))) [] ⌝ }
+{
+    let mut work = [0u32; 256];
+    let opened = timed_open::examine(slots, counts, balance, &mut work);
+    match call_open::admit_rank(opened, rank) {
+        Opened::Sheet { n, m } => {
+            let change = Change::Delete(rank);
+            timed_change::change(slots, counts, balance, &mut work, n, m, change, 0, tape)
+        }
+        Opened::Refused(cause) => Answer::Refused(cause),
+    }
+}
+
+// The rank of the entry, or that it is not there and the rank at which it would stand.
+pub fn find(slots: &[u64], counts: &[u16], balance: &[u64], entry: u64) -> Answer
+    ensures { λ r. ⌜ timedOutcomeOf r (now (slots .entry)) (now (counts .entry)) (now (balance .entry)) []
+        ≡ outcome (timed clubs) (call.find entry) [] (timedStoreOf (now (slots .entry)) (now (counts .entry)) (now (balance .entry))) [] ⌝ }
+{
+    let mut work = [0u32; 256];
+    match timed_open::examine(slots, counts, balance, &mut work) {
+        Opened::Sheet { n: _, m } => {
+            if store_keys::key(entry) == 0 {
+                return Answer::Refused(Cause::EntryZero);
+            }
+            let sought = store_search::search(Size { m: m }, slots, &work, balance, entry);
+            if sought.present {
+                return Answer::Present { rank: sought.rank };
+            }
+            Answer::Absent { rank: sought.rank }
+        }
+        Opened::Refused(cause) => Answer::Refused(cause),
+    }
+}
+
+// Copies the entries of ranks first to last to the front of the output.
+pub fn read(
+    slots: &[u64],
+    counts: &[u16],
+    balance: &[u64],
+    first: usize,
+    last: usize,
+    output: &mut [u64],
+) -> Answer
+    ensures { λ r. ⌜ timedOutcomeOf r (now (slots .entry)) (now (counts .entry)) (now (balance .entry)) (now (output .exit))
+        ≡ outcome (timed clubs) (call.read first last (length (now (output .entry)))) []
+        (timedStoreOf (now (slots .entry)) (now (counts .entry)) (now (balance .entry))) (now (output .entry)) ⌝ }
+{
+    let mut work = [0u32; 256];
+    let opened = timed_open::examine(slots, counts, balance, &mut work);
+    call_questions::read(opened, slots, &work, first, last, output)
+}
+
+// The place of the entry at the rank, and its points.
+pub fn place(slots: &[u64], counts: &[u16], balance: &[u64], rank: usize) -> Answer
+    ensures { λ r. ⌜ timedOutcomeOf r (now (slots .entry)) (now (counts .entry)) (now (balance .entry)) []
+        ≡ outcome (timed clubs) (call.place rank) [] (timedStoreOf (now (slots .entry)) (now (counts .entry)) (now (balance .entry))) [] ⌝ }
+{
+    let mut work = [0u32; 256];
+    let opened = timed_open::examine(slots, counts, balance, &mut work);
+    call_questions::place(opened, rank)
+}
+
+// The number of entries of a sheet.
+pub fn check(slots: &[u64], counts: &[u16], balance: &[u64]) -> Answer
+    ensures { λ r. ⌜ timedOutcomeOf r (now (slots .entry)) (now (counts .entry)) (now (balance .entry)) []
+        ≡ outcome (timed clubs) call.check [] (timedStoreOf (now (slots .entry)) (now (counts .entry)) (now (balance .entry))) [] ⌝ }
+{
+    let mut work = [0u32; 256];
+    let opened = timed_open::examine(slots, counts, balance, &mut work);
+    call_questions::check(opened)
+}

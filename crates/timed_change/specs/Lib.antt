@@ -1,0 +1,2 @@
+-- A change of the clubs' timed sheet.
+pub mod ChangeLaws

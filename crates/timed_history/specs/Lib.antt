@@ -1,0 +1,3 @@
+-- Histories of the clubs' timed sheets, and what single calls do to them.
+pub mod Clause
+pub mod TimedSheets

@@ -1,0 +1,103 @@
+-- What single calls do to the clubs' timed sheets.
+use mathlib.Core.Path.{_≡_, refl, _∙_}
+use mathlib.Core.Bool.{Bool, true, false}
+use mathlib.Core.Logic.{_≢_}
+use mathlib.Core.List.{List}
+use mathlib.Core.Option.{Option, some, none}
+use Prim.Native.Nat.{ℕ, _<_}
+use borrow.Author.Tests.{ne-eqb}
+use lib.ListN.{length, getD}
+use Rattle.tree_rules.specs.declared.Change.the-variants.{Insert, Delete}
+use Rattle.tree_rules.specs.ChangeList.{changeList}
+use Rattle.store_layout.specs.Decode.{Contents, decode}
+use Rattle.store_keys.specs.Key.{key, rankOf, present}
+use Rattle.store_keys.specs.KeyLaws as keys
+use Rattle.call_outcomes.specs.declared.Cause.the-variants.{NotASheet, NotTimed}
+use Rattle.call_outcomes.specs.declared.Answer.the-variants.{Checked, Changed, Present, Refused}
+use Rattle.call_outcomes.specs.Kind.{SheetOf, applied, holds}
+use Rattle.call_outcomes.specs.KindLaws.{decoded-sheet}
+use Rattle.call_outcomes.specs.Causes.{firstOf, refuse, byLengths, byFound, storeDecision, lookedAt, argumentCause, byArguments, decision}
+use Rattle.call_outcomes.specs.Outcome.{refused, outcome}
+use Rattle.call_outcomes.specs.DecisionLaws.{outcome-refused}
+use Rattle.call_outcomes.specs.Plain.{countOf, questionCause, replyTo, foundBy, plainView, editOf}
+use Rattle.call_outcomes.specs.Clubs.{clubs}
+use Rattle.call_outcomes.specs.ClubsLaws.{clubs-lawful}
+use Rattle.call_history.specs.SingleCalls.{answered-by, changed-by}
+use Rattle.call_history.specs.ClubSheets.{ClubSheet}
+use Rattle.call_timed.specs.Timed.{TimedStore, TimedLengths, timedTest, timedBy, foundTimed, timedView, insertEntry, deleteRank, plainly, findEntry, asPlain, timedQuestionCause, foundAt, timedReply, timed, insert, delete, find, check}
+use Rattle.call_timed.specs.TimedLaws.{timed-right}
+use Rattle.timed_history.specs.Clause.{clubs-timed}
+
+-- The store is a timed sheet of the list: some size and balance entries lay out its three slices.
+abbrev pub TimedSheet : List ℕ → TimedStore → Type 0
+TimedSheet = SheetOf (timedView clubs)
+
+-- ---- check
+
+-- A check of a timed sheet answers with the length of its list.
+pub check-sheet : (list : List ℕ) (store : TimedStore) → TimedSheet list store → (tape output : List ℕ)
+    → outcome (timed clubs) check tape store output .answer ≡ Checked (length list)
+unfolding timedReply timedQuestionCause replyTo questionCause
+check-sheet list store w = answered-by (timed clubs) clubs-timed list store w (asPlain countOf) refl
+
+-- A check of a store of the right lengths is refused by cause 2 where slots and counts are a plain sheet of no list; by cause 11 where they
+-- are one, and the store is a timed sheet of no list.
+module _ (store : TimedStore) (right : TimedLengths clubs store) (tape output : List ℕ) where
+  pub check-other : ((list : List ℕ) → ClubSheet list (store .sheet) → ⊥) → outcome (timed clubs) check tape store output .answer ≡ Refused NotASheet
+  unfolding decision lookedAt storeDecision byLengths byFound foundTimed foundBy byArguments refused
+  check-other none-is =
+      rw (outcome-refused (timed clubs) check store tape output NotASheet (rw (timed-right clubs store right) (go (decode clubs (store .sheet)) refl)))
+    where
+      go : (o : Option Contents) → decode clubs (store .sheet) ≡ o
+          → byArguments (argumentCause (timed clubs) check) (byFound (foundTimed clubs (store .balance) (foundBy (decode clubs (store .sheet))))) ≡ refuse NotASheet
+      go none e = rw e
+      go (some c) e = absurd (none-is (c .list) (decoded-sheet (plainView clubs) (clubs-lawful .view) (store .sheet) c (rw e)))
+
+  pub check-untimed : (list : List ℕ) → ClubSheet list (store .sheet) → ((list : List ℕ) → TimedSheet list store → ⊥)
+      → outcome (timed clubs) check tape store output .answer ≡ Refused NotTimed
+  unfolding decision lookedAt storeDecision byLengths byFound foundTimed timedBy byArguments refused
+  check-untimed list w none-is =
+      rw (outcome-refused (timed clubs) check store tape output NotTimed (rw (timed-right clubs store right, plain-found) (go (timedTest clubs (store .balance) c) refl)))
+    where
+      c : Contents
+      c = record { list = list; shape = w .shape }
+
+      plain-found : plainView clubs .decode (store .sheet) ≡ holds c
+      plain-found = rw (w .laid) (clubs-lawful .view .complete list (w .shape) (w .is-list) (w .is-shape))
+
+      go : (b : Bool) → timedTest clubs (store .balance) c ≡ b
+          → byArguments (argumentCause (timed clubs) check) (byFound (timedBy (timedTest clubs (store .balance) c) c)) ≡ refuse NotTimed
+      go true e = absurd (none-is list (decoded-sheet (timedView clubs) (clubs-timed .view) store c (rw (plain-found, e))))
+      go false e = rw e
+
+-- ---- find
+
+-- A find of an entry with a key is answered by the list: its rank, or the rank at which it would stand.
+pub find-sheet : (list : List ℕ) (store : TimedStore) → TimedSheet list store → (e : ℕ) → key e ≢ 0 → (tape output : List ℕ)
+    → outcome (timed clubs) (find e) tape store output .answer ≡ foundAt (present (key e) list) (rankOf (key e) list)
+unfolding timedReply timedQuestionCause firstOf
+find-sheet list store w e some-key = answered-by (timed clubs) clubs-timed list store w (findEntry e) (rw (ne-eqb (key e) 0 some-key))
+
+-- The entry at a rank is found there.
+pub find-entry : (list : List ℕ) (store : TimedStore) → TimedSheet list store → (r : ℕ) → r < length list → key (getD list r 0) ≢ 0 → (tape output : List ℕ)
+    → outcome (timed clubs) (find (getD list r 0)) tape store output .answer ≡ Present r
+unfolding foundAt
+find-entry list store w r below some-key tape output =
+    let at = keys.rank-is r list (w .is-list .rising) below in
+    find-sheet list store w (getD list r 0) some-key tape output ∙ rw (at .0, at .1)
+
+-- ---- insert and delete
+
+-- An insert that is made leaves a timed sheet of the list with the entry in at the rank of its key; a delete, of the list without the one
+-- at the rank.
+pub inserted-sheet : (list : List ℕ) (store : TimedStore) → TimedSheet list store → (e : ℕ) (tape output : List ℕ) (n words : ℕ)
+    → outcome (timed clubs) (insert e) tape store output .answer ≡ Changed n words
+    → TimedSheet (changeList (Insert (rankOf (key e) list)) e list) (outcome (timed clubs) (insert e) tape store output .store)
+unfolding plainly editOf applied
+inserted-sheet list store w e = changed-by (timed clubs) clubs-timed list store w (insertEntry e)
+
+pub deleted-sheet : (list : List ℕ) (store : TimedStore) → TimedSheet list store → (i : ℕ) (tape output : List ℕ) (n words : ℕ)
+    → outcome (timed clubs) (delete i) tape store output .answer ≡ Changed n words
+    → TimedSheet (changeList (Delete i) 0 list) (outcome (timed clubs) (delete i) tape store output .store)
+unfolding plainly editOf applied
+deleted-sheet list store w i = changed-by (timed clubs) clubs-timed list store w (deleteRank i)

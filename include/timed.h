@@ -1,0 +1,80 @@
+/* Timed sheets: seven calls on a store that the caller lends, whose entries rise, so that a boat is entered and found by her finish.
+ *
+ * On x86-64 Linux, `rt staticlib timed_c` proves the crates and writes target/staticlib/libtimed_c.a; a program is then built by
+ *
+ *     gcc -I include -o program program.c target/staticlib/libtimed_c.a
+ *
+ * with target/staticlib/libsheet_c.a behind it where it makes the calls of sheet.h too. What a sheet is, how slices are passed, what the
+ * coins have to be and what is not claimed stands in sheet.h, and holds here.
+ *
+ * The timed sheet. An entry is a 64-bit number other than 0, the finish time in the upper 32 bits and the sail number in the lower. The
+ * entries rise strictly from rank to rank, so none is there twice. The store is SHEET_SLOTS slots and SHEET_COUNTS counts, which are those of
+ * a sheet of sheet.h, and a third slice, `balance`, of TIMED_BALANCE words: it holds at the number of each range above the leaves the balance
+ * entry of that range, the first of its right half, and 0 elsewhere. Range 1 is the root, 2k and 2k + 1 are the halves of range k; the slice
+ * stands by these numbers, whatever the order of the counts. A store of zeros is the empty timed sheet, and timed_clear makes any store that
+ * one.
+ *
+ * What a call returns. The returned number is that of the cause that refuses the call, or SHEET_ACCEPTED. The values come back in `answer`,
+ * of which a call writes the first two elements:
+ *
+ *     clear           0, 0
+ *     insert, delete  the new N, the words read from the tape
+ *     find            1 and the rank of the entry; or 0 and the rank at which it would stand
+ *     read            the entries put into `output`, 0
+ *     place           the place, the points
+ *     check           N, 0
+ *
+ * The first cause decides, in the order SHEET_LENGTHS, SHEET_NOT_A_SHEET, TIMED_NOT_TIMED, SHEET_ENTRY_ZERO, TIMED_PRESENT, SHEET_RANK,
+ * SHEET_FULL, SHEET_OUTPUT_SHORT, SHEET_TAPE_ENDED. SHEET_LENGTHS is that any of the three slices has another length; SHEET_NOT_A_SHEET looks
+ * at slots and counts alone. A refused call puts 0, 0 into `answer` and changes nothing else. With fewer than two elements of `answer`,
+ * SHEET_ANSWER_SHORT is returned before any cause is looked for, and nothing changes at all.
+ */
+#ifndef TIMED_H
+#define TIMED_H
+
+#include "sheet.h"
+
+#define TIMED_BALANCE 256
+
+/* The numbers that only these calls return; the others are those of sheet.h. */
+#define TIMED_PRESENT 10   /* insert of an entry that is there, also on a full sheet */
+#define TIMED_NOT_TIMED 11 /* the entries do not rise strictly, or the third slice is wrong */
+
+#ifdef __cplusplus
+extern "C" {
+#endif
+
+/* Makes any contents the empty timed sheet. Only SHEET_LENGTHS can refuse it. */
+size_t timed_clear(uint64_t *slots, size_t slots_len, uint16_t *counts, size_t counts_len, uint64_t *balance, size_t balance_len,
+                   uint64_t *answer, size_t answer_len);
+
+/* Puts the entry in. Its rank is the number of entries below it; the entries that had this rank and higher ones move up by one. */
+size_t timed_insert(uint64_t *slots, size_t slots_len, uint16_t *counts, size_t counts_len, uint64_t *balance, size_t balance_len,
+                    uint64_t entry, const uint32_t *tape, size_t tape_len, uint64_t *answer, size_t answer_len);
+
+/* Takes the entry at a rank from 0 to N - 1 out. The entries of higher ranks move down by one. */
+size_t timed_delete(uint64_t *slots, size_t slots_len, uint16_t *counts, size_t counts_len, uint64_t *balance, size_t balance_len,
+                    size_t rank, const uint32_t *tape, size_t tape_len, uint64_t *answer, size_t answer_len);
+
+/* Whether the entry is there, and its rank; or the rank at which it would stand, the number of entries below it. */
+size_t timed_find(const uint64_t *slots, size_t slots_len, const uint16_t *counts, size_t counts_len, const uint64_t *balance,
+                  size_t balance_len, uint64_t entry, uint64_t *answer, size_t answer_len);
+
+/* Copies the entries of ranks first to last, inclusive, both from 0 to N - 1, to the front of the output. The rest of it stays as it was. */
+size_t timed_read(const uint64_t *slots, size_t slots_len, const uint16_t *counts, size_t counts_len, const uint64_t *balance,
+                  size_t balance_len, size_t first, size_t last, uint64_t *output, size_t output_len, uint64_t *answer,
+                  size_t answer_len);
+
+/* The place of the entry at a rank from 0 to N - 1, which is the rank plus 1, and its points, as many as the place. */
+size_t timed_place(const uint64_t *slots, size_t slots_len, const uint16_t *counts, size_t counts_len, const uint64_t *balance,
+                   size_t balance_len, size_t rank, uint64_t *answer, size_t answer_len);
+
+/* Whether the store is a timed sheet, and N. */
+size_t timed_check(const uint64_t *slots, size_t slots_len, const uint16_t *counts, size_t counts_len, const uint64_t *balance,
+                   size_t balance_len, uint64_t *answer, size_t answer_len);
+
+#ifdef __cplusplus
+}
+#endif
+
+#endif

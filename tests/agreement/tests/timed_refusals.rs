@@ -1,0 +1,282 @@
+//! Timed stores damaged in each of the three slices, entries that do not rise,
+//! wrong lengths, the order of the causes, tapes that end at every place, and
+//! outputs and answer slices that are too short, on both.
+
+use agreement::stores::{rising, tape};
+use agreement::timed::{proved_with, Call, Store};
+use agreement::Both;
+use reference::conversions::to_number_order;
+use reference::layout::{COUNTS, SLOTS};
+use reference::order::place;
+use reference::random::SplitMix64;
+use reference::sizes::Size;
+use reference::timed::BALANCE;
+
+/// An entry below all those of a sheet made here.
+const LOWEST: u64 = 3;
+const REFUSED_11: [u64; 7] = [11, 11, 11, 11, 11, 11, 0];
+
+/// A timed sheet of n entries, of any size that it can have.
+fn sheet(seed: u64, n: usize) -> Store {
+    let mut random = SplitMix64::new(seed);
+    let list = rising(n, &mut random);
+    let m = n + random.below(n.max(1));
+    Store::of_size(&list, m, &mut random)
+}
+
+/// The seven calls on a store, each from the start: the numbers of their causes.
+/// A refused call leaves the store as it was.
+fn all_calls(seed: u64, store: &Store) -> [u64; 7] {
+    let words = tape(&mut SplitMix64::new(seed));
+    [
+        Call::Check,
+        Call::Insert { entry: LOWEST, tape: words.clone() },
+        Call::Delete { rank: 0, tape: words },
+        Call::Find { entry: LOWEST },
+        Call::Read { first: 0, last: 0, output: vec![5; 2] },
+        Call::Place { rank: 0 },
+        Call::Clear,
+    ]
+    .map(|call| {
+        let mut both = Both::new(seed, store.clone());
+        let [number, _, _] = both.call(call);
+        assert!(number == 0 || both.store == *store);
+        number
+    })
+}
+
+#[test]
+fn every_count_changed() {
+    for (seed, n) in [(6001, 0), (6002, 5), (6003, 70), (6004, 300), (6005, 1024)] {
+        let before = sheet(seed, n);
+        for k in 0..COUNTS {
+            for change in [1, u16::MAX, 0x8000] {
+                let mut store = before.clone();
+                store.counts[k] = store.counts[k].wrapping_add(change);
+                all_calls(seed, &store);
+            }
+        }
+    }
+}
+
+/// Zeros, entries in gaps, and other entries, with which the sheet may rise or not.
+#[test]
+fn slots_changed() {
+    for (seed, n) in [(6011, 0), (6012, 5), (6013, 70), (6014, 1024)] {
+        let before = sheet(seed, n);
+        let mut random = SplitMix64::new(seed);
+        for _ in 0..1000 {
+            let mut store = before.clone();
+            let k = random.below((3 * n + 3).min(SLOTS));
+            store.slots[k] = match random.below(3) {
+                0 => 0,
+                1 => random.entry(),
+                _ => store.slots[k].wrapping_add(1),
+            };
+            all_calls(seed, &store);
+        }
+    }
+}
+
+/// Number 0 and the words from the leaves on too, which are zero on a sheet.
+#[test]
+fn every_word_of_the_third_slice_changed() {
+    for (seed, n) in [(6021, 0), (6022, 5), (6023, 64), (6024, 70), (6025, 300), (6026, 1024)] {
+        let before = sheet(seed, n);
+        for k in 0..BALANCE {
+            let held = before.balance[k];
+            for wrong in [held ^ 1, held ^ 1 << 63, 0].into_iter().filter(|wrong| *wrong != held) {
+                let mut store = before.clone();
+                store.balance[k] = wrong;
+                assert_eq!(all_calls(seed, &store), REFUSED_11, "N {n} word {k}");
+            }
+        }
+    }
+}
+
+/// The third slices of other sheets of the same list, and a slice in tree order.
+#[test]
+fn another_third_slice() {
+    let mut random = SplitMix64::new(6030);
+    for n in [65, 100, 300, 1024] {
+        for m in [n, 2 * n - 1] {
+            let list = rising(n, &mut random);
+            let sheet = Store::of_size(&list, m, &mut random);
+            let levels = Size::new(m).height() + 1;
+            let mut in_tree_order = vec![0; BALANCE];
+            for k in 1..1 << levels {
+                in_tree_order[place(k, levels)] = sheet.balance[k];
+            }
+            let of_another = Store::of_size(&list, m, &mut random).balance;
+            let of_another_size = Store::of_size(&list, n + 1, &mut random).balance;
+            for balance in [vec![0; BALANCE], in_tree_order, of_another, of_another_size] {
+                assert!(balance != sheet.balance);
+                let store = Store { balance, ..sheet.clone() };
+                assert_eq!(all_calls(6030, &store), REFUSED_11, "N {n} M {m}");
+            }
+        }
+    }
+}
+
+/// Counts in number order are no sheet where M > 64, whatever the third slice.
+#[test]
+fn number_order() {
+    let mut random = SplitMix64::new(6035);
+    for n in [65, 100, 300, 1024] {
+        for m in [n, n + random.below(n), 2 * n - 1] {
+            let mut store = Store::of_size(&rising(n, &mut random), m, &mut random);
+            assert_eq!(to_number_order(&mut store.counts).number(), 0);
+            assert_eq!(all_calls(6035, &store), [2, 2, 2, 2, 2, 2, 0], "N {n} M {m}");
+        }
+    }
+}
+
+/// Neighbours that fall or are equal, anywhere, in one leaf or in two; the third
+/// slice is that of their own balance entries.
+#[test]
+fn entries_that_do_not_rise() {
+    let mut random = SplitMix64::new(6040);
+    for (n, step) in [(2, 1), (5, 1), (64, 1), (70, 1), (300, 1), (1024, 3)] {
+        for rank in (1..n).step_by(step) {
+            let list = rising(n, &mut random);
+            let (mut falls, mut stays) = (list.clone(), list);
+            falls.swap(rank - 1, rank);
+            stays[rank] = stays[rank - 1];
+            let m = n + random.below(n);
+            for list in [falls, stays] {
+                let store = Store::of_size(&list, m, &mut random);
+                assert_eq!(all_calls(6040, &store), REFUSED_11, "N {n} M {m} rank {rank}");
+            }
+        }
+    }
+}
+
+/// The order 1, 2, 11, 3, 10, 5, 7 of an insert, and 1, 2, 11, 3 of a find.
+#[test]
+fn order_of_causes() {
+    let full = sheet(6050, 1024);
+    let there = full.entries().nth(500).unwrap();
+    let insert = |store: &Store, entry| Both::new(6050, store.clone()).call(Call::Insert { entry, tape: vec![] });
+    let find = |store: &Store, entry| Both::new(6050, store.clone()).call(Call::Find { entry });
+    assert_eq!([0, there, LOWEST].map(|entry| insert(&full, entry)), [[3, 0, 0], [10, 0, 0], [5, 0, 0]]);
+    assert_eq!(find(&full, 0), [3, 0, 0]);
+    let some = sheet(6051, 100);
+    let there = some.entries().last().unwrap();
+    assert_eq!([0, there, LOWEST].map(|entry| insert(&some, entry)), [[3, 0, 0], [10, 0, 0], [7, 0, 0]]);
+    let mut store = full;
+    store.balance[255] = 1;
+    assert_eq!([0, there, LOWEST].map(|entry| insert(&store, entry)), [[11, 0, 0]; 3]);
+    assert_eq!(find(&store, 0), [11, 0, 0]);
+    store.counts[200] += 1;
+    assert_eq!([0, there, LOWEST].map(|entry| insert(&store, entry)), [[2, 0, 0]; 3]);
+    assert_eq!(find(&store, 0), [2, 0, 0]);
+    store.balance.pop();
+    assert_eq!([0, there, LOWEST].map(|entry| insert(&store, entry)), [[1, 0, 0]; 3]);
+    assert_eq!(find(&store, 0), [1, 0, 0]);
+}
+
+/// Every entry of a sheet, full or not, and entry zero.
+#[test]
+fn entries_that_are_there() {
+    for (seed, n) in [(6061, 1), (6062, 64), (6063, 100), (6064, 1024)] {
+        let before = sheet(seed, n);
+        let mut both = Both::new(seed, before.clone());
+        for entry in before.entries() {
+            assert_eq!(both.call(Call::Insert { entry, tape: vec![1; 2048] }), [10, 0, 0], "N {n}");
+        }
+        assert_eq!(both.call(Call::Insert { entry: 0, tape: vec![1; 2048] }), [3, 0, 0], "N {n}");
+        assert!(both.store == before);
+    }
+}
+
+#[test]
+fn wrong_lengths() {
+    let sheets = [sheet(6071, 40), sheet(6072, 200), Store::unused()];
+    let lengths = [
+        (4223, 256, 256),
+        (4225, 256, 256),
+        (4224, 255, 256),
+        (4224, 257, 256),
+        (4224, 256, 255),
+        (4224, 256, 257),
+        (4224, 256, 0),
+        (4224, 0, 256),
+        (0, 256, 256),
+        (0, 0, 0),
+    ];
+    for before in sheets {
+        for (slots, counts, balance) in lengths {
+            let mut store = before.clone();
+            store.slots.resize(slots, 0);
+            store.counts.resize(counts, 0);
+            store.balance.resize(balance, 0);
+            assert_eq!(all_calls(6071, &store), [1; 7], "{slots} slots, {counts} counts, {balance} words");
+        }
+    }
+}
+
+#[test]
+fn tapes_that_end() {
+    for (seed, n) in [(6081, 1), (6082, 3), (6083, 64), (6084, 80), (6085, 200)] {
+        let before = sheet(seed, n);
+        let mut random = SplitMix64::new(seed);
+        for _ in 0..20 {
+            let words = tape(&mut random);
+            let (rank, entry) = (random.below(n), random.entry());
+            for call in [0, 1] {
+                let made = |length: usize| match call {
+                    0 => Call::Insert { entry, tape: words[..length].to_vec() },
+                    _ => Call::Delete { rank, tape: words[..length].to_vec() },
+                };
+                let [_, _, read] = Both::new(seed, before.clone()).call(made(words.len()));
+                for length in 0..read as usize {
+                    let mut both = Both::new(seed, before.clone());
+                    assert_eq!(both.call(made(length)), [7, 0, 0]);
+                    assert!(both.store == before);
+                }
+            }
+        }
+    }
+}
+
+#[test]
+fn short_outputs() {
+    let before = sheet(6091, 100);
+    for (first, last) in [(0, 0), (0, 99), (40, 60), (99, 99), (50, 100), (60, 50)] {
+        for room in 0..102 {
+            let mut both = Both::new(6091, before.clone());
+            both.call(Call::Read { first, last, output: vec![5; room] });
+            assert!(both.store == before);
+        }
+    }
+}
+
+/// 255 comes before every cause, and nothing changes.
+#[test]
+fn short_answers() {
+    let sheet = sheet(6101, 100);
+    let (mut short, mut no_sheet, mut not_timed) = (sheet.clone(), sheet.clone(), sheet.clone());
+    short.balance.pop();
+    no_sheet.counts[255] = 1;
+    not_timed.balance[255] = 1;
+    for before in [sheet, short, no_sheet, not_timed] {
+        for call in [
+            Call::Clear,
+            Call::Check,
+            Call::Insert { entry: LOWEST, tape: vec![1; 2048] },
+            Call::Insert { entry: 0, tape: vec![] },
+            Call::Delete { rank: 0, tape: vec![1; 2048] },
+            Call::Find { entry: LOWEST },
+            Call::Find { entry: 0 },
+            Call::Read { first: 0, last: 0, output: vec![5; 2] },
+            Call::Place { rank: 0 },
+        ] {
+            for room in [0, 1] {
+                let mut store = before.clone();
+                let (number, answer, output) = proved_with(&call, &mut store, room);
+                assert_eq!((number, answer), (255, vec![77; room]), "{call:?}");
+                assert!(store == before && output.iter().all(|value| *value == 5), "{call:?}");
+            }
+        }
+    }
+}

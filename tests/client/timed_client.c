@@ -1,0 +1,133 @@
+/* A small display program for timed finishes: enters boats in the order in which their finishes come in, asks for some of them, strikes one
+ * out, and prints place, time and sail number of each; then causes that a call is refused by; then a full sheet, each boat of which is found. */
+#include "tape.h"
+#include "timed.h"
+
+#include <inttypes.h>
+#include <stdio.h>
+
+static uint64_t slots[SHEET_SLOTS];
+static uint16_t counts[SHEET_COUNTS];
+static uint64_t balance[TIMED_BALANCE];
+static uint64_t answer[2];
+
+/* The three slices of the store, as every call takes them. */
+#define STORE slots, SHEET_SLOTS, counts, SHEET_COUNTS, balance, TIMED_BALANCE
+
+/* The entry of a boat: her finish time in the upper half, her sail number in the lower. */
+static uint64_t finish(uint32_t time, uint32_t sail) {
+    return (uint64_t)time << 32 | sail;
+}
+
+static void insert(uint64_t entry) {
+    size_t number;
+
+    while ((number = timed_insert(STORE, entry, tape, waiting, answer, 2)) == SHEET_TAPE_ENDED)
+        extend_tape();
+    accepted("insert", number);
+    drop_words((size_t)answer[1]);
+}
+
+static void delete(size_t rank) {
+    size_t number;
+
+    while ((number = timed_delete(STORE, rank, tape, waiting, answer, 2)) == SHEET_TAPE_ENDED)
+        extend_tape();
+    accepted("delete", number);
+    drop_words((size_t)answer[1]);
+}
+
+/* Prints whether the boat is there with this time, and the rank. */
+static void ask(uint32_t time, uint32_t sail) {
+    accepted("find", timed_find(STORE, finish(time, sail), answer, 2));
+    printf("sail %u at %u: %s, rank %" PRIu64 "\n", sail, time, answer[0] == 1 ? "there" : "absent", answer[1]);
+}
+
+/* Prints the number of boats and a line for each: place, time and sail number. */
+static void display(void) {
+    uint64_t output[SHEET_ENTRIES];
+    size_t i, n;
+
+    accepted("check", timed_check(STORE, answer, 2));
+    n = (size_t)answer[0];
+    printf("%zu boats\n", n);
+    accepted("read", timed_read(STORE, 0, n - 1, output, SHEET_ENTRIES, answer, 2));
+    for (i = 0; i < n; i++) {
+        accepted("place", timed_place(STORE, i, answer, 2));
+        printf("%" PRIu64 " %" PRIu64 " %" PRIu64 "\n", answer[0], output[i] >> 32, output[i] & UINT32_MAX);
+    }
+}
+
+/* Finishes in the order in which they come in; sail numbers 42 and 7 have the same time. */
+static void race(void) {
+    static const uint32_t finishes[][2] = {{3720, 311}, {3605, 42}, {3605, 7}, {3590, 2024}, {4001, 117}};
+    size_t i;
+
+    accepted("clear", timed_clear(STORE, answer, 2));
+    for (i = 0; i < sizeof finishes / sizeof finishes[0]; i++)
+        insert(finish(finishes[i][0], finishes[i][1]));
+    ask(3605, 42);
+    ask(3606, 42);
+    accepted("find", timed_find(STORE, finish(3605, 42), answer, 2));
+    delete((size_t)answer[1]);
+    ask(3605, 42);
+    display();
+}
+
+/* What the calls are refused by. */
+static void refusals(void) {
+    printf("entered again: %zu\n", timed_insert(STORE, finish(3605, 7), tape, waiting, answer, 2));
+    printf("entry zero: %zu, %zu\n", timed_insert(STORE, 0, tape, waiting, answer, 2), timed_find(STORE, 0, answer, 2));
+    printf("rank too high: %zu\n", timed_place(STORE, 4, answer, 2));
+    printf("no tape: %zu\n", timed_insert(STORE, finish(3605, 8), tape, 0, answer, 2));
+    printf("answer too short: %zu\n", timed_check(STORE, answer, 1));
+    printf("third slice too short: %zu\n", timed_check(slots, SHEET_SLOTS, counts, SHEET_COUNTS, balance, TIMED_BALANCE - 1, answer, 2));
+    balance[0] = 1;
+    printf("third slice wrong: %zu\n", timed_check(STORE, answer, 2));
+    balance[0] = 0;
+}
+
+/* The boat that comes in as number i of a full sheet: every sail number from 1 to SHEET_ENTRIES once, out of order. */
+static uint64_t boat(size_t i) {
+    uint32_t sail = (uint32_t)(i * 389 % SHEET_ENTRIES) + 1;
+
+    return finish(3600 + sail / 4, sail);
+}
+
+/* Fills the sheet, finds each boat and each balance entry, and strikes the first half out. */
+static void fill(void) {
+    size_t i, found = 0, absent = 0;
+
+    accepted("clear", timed_clear(STORE, answer, 2));
+    for (i = 0; i < SHEET_ENTRIES; i++)
+        insert(boat(i));
+    for (i = 0; i < SHEET_ENTRIES; i++) {
+        accepted("find", timed_find(STORE, boat(i), answer, 2));
+        found += answer[0] == 1 && answer[1] + 1 == (boat(i) & UINT32_MAX);
+    }
+    printf("found at their ranks: %zu\n", found);
+    for (i = 0; i < TIMED_BALANCE; i++)
+        if (balance[i] != 0) {
+            accepted("find", timed_find(STORE, balance[i], answer, 2));
+            absent += answer[0] != 1;
+        }
+    printf("balance entries that are absent: %zu\n", absent);
+    printf("one boat too many: %zu\n", timed_insert(STORE, finish(1, 1), tape, waiting, answer, 2));
+    printf("entered again: %zu\n", timed_insert(STORE, boat(5), tape, waiting, answer, 2));
+    for (i = 0; i < SHEET_ENTRIES / 2; i++)
+        delete(0);
+    accepted("check", timed_check(STORE, answer, 2));
+    printf("%" PRIu64 " boats stay\n", answer[0]);
+    ask(3600 + SHEET_ENTRIES / 8, SHEET_ENTRIES / 2);
+    ask(3600 + SHEET_ENTRIES / 8, SHEET_ENTRIES / 2 + 1);
+}
+
+int main(void) {
+    race();
+    refusals();
+    fill();
+    if (words_drawn != words_read + waiting)
+        printf("a word was lost, or read by two calls\n");
+    fprintf(stderr, "size parameter %u, %lu words read\n", counts[0], words_read);
+    return 0;
+}

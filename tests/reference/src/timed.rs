@@ -1,0 +1,226 @@
+//! Timed sheets (02, F-1): a sheet whose entries rise strictly, with a third slice
+//! that holds the balance entries. Rules, layout and coins are those of a plain
+//! sheet: each call here rests on the call of [`calls`].
+
+use crate::calls::{self, Answer, Cause};
+use crate::coins::{Source, Tape};
+use crate::layout::{Counts, Node, Sheet, Slots};
+use std::cmp::Ordering;
+
+/// 02, F-1: "A third slice of 256 64-bit words".
+pub const BALANCE: usize = 256;
+
+pub type Balance = [u64; BALANCE];
+
+/// What the entries of a timed sheet are compared by.
+pub const fn key(entry: u64) -> u64 {
+    entry
+}
+
+/// Clear can meet only cause 1, and makes any contents the empty timed sheet.
+pub fn clear(slots: &mut [u64], counts: &mut [u16], balance: &mut [u64]) -> Answer {
+    if balance.len() != BALANCE {
+        return Answer::Refused(Cause::Lengths);
+    }
+    let answer = calls::clear(slots, counts);
+    if answer == Answer::Cleared {
+        balance.fill(0);
+    }
+    answer
+}
+
+/// Inserts an entry, with coins from the start of `tape`. Its rank follows from
+/// it: the number of entries below.
+pub fn insert(
+    slots: &mut [u64],
+    counts: &mut [u16],
+    balance: &mut [u64],
+    entry: u64,
+    tape: &[u32],
+) -> Answer {
+    let mut tape = Tape::new(tape);
+    let result = insert_from(slots, counts, balance, entry, &mut tape);
+    calls::changed(result, &tape)
+}
+
+/// Deletes the entry at a rank, with coins from the start of `tape`.
+pub fn delete(
+    slots: &mut [u64],
+    counts: &mut [u16],
+    balance: &mut [u64],
+    rank: usize,
+    tape: &[u32],
+) -> Answer {
+    let mut tape = Tape::new(tape);
+    let result = delete_from(slots, counts, balance, rank, &mut tape);
+    calls::changed(result, &tape)
+}
+
+/// 02, F-1: "to find the rank of an entry or learn that it is absent."
+pub fn find(slots: &[u64], counts: &[u16], balance: &[u64], entry: u64) -> Answer {
+    let found = |timed: Timed| match timed.search(given(entry)?) {
+        Ok(rank) => Ok(Answer::Found { rank }),
+        Err(rank) => Ok(Answer::Absent { rank }),
+    };
+    open(slots, counts, balance).and_then(found).into()
+}
+
+/// Reads ranks `first` to `last` inclusive into the front of `output`.
+pub fn read(
+    slots: &[u64],
+    counts: &[u16],
+    balance: &[u64],
+    first: usize,
+    last: usize,
+    output: &mut [u64],
+) -> Answer {
+    open(slots, counts, balance)
+        .map(|_| calls::read(slots, counts, first, last, output))
+        .into()
+}
+
+/// The place of a rank and its points.
+pub fn place(slots: &[u64], counts: &[u16], balance: &[u64], rank: usize) -> Answer {
+    open(slots, counts, balance)
+        .map(|_| calls::place(slots, counts, rank))
+        .into()
+}
+
+/// Whether the store is a timed sheet, and its length.
+pub fn check(slots: &[u64], counts: &[u16], balance: &[u64]) -> Answer {
+    open(slots, counts, balance)
+        .map(|timed| Answer::Checked { n: timed.sheet.n })
+        .into()
+}
+
+/// Insert with coins from any source: the new N, or the cause of a refusal.
+pub fn insert_from<S: Source>(
+    slots: &mut [u64],
+    counts: &mut [u16],
+    balance: &mut [u64],
+    entry: u64,
+    source: &mut S,
+) -> Result<usize, Cause> {
+    let timed = open(slots, counts, balance)?;
+    let rank = match timed.search(given(entry)?) {
+        Ok(_) => return Err(Cause::Present),
+        Err(rank) => rank,
+    };
+    let n = calls::insert_from(slots, counts, rank, entry, source)?;
+    balance.copy_from_slice(&balance_entries(slots, counts)?);
+    Ok(n)
+}
+
+/// Delete with coins from any source: the new N, or the cause of a refusal.
+pub fn delete_from<S: Source>(
+    slots: &mut [u64],
+    counts: &mut [u16],
+    balance: &mut [u64],
+    rank: usize,
+    source: &mut S,
+) -> Result<usize, Cause> {
+    open(slots, counts, balance)?;
+    let n = calls::delete_from(slots, counts, rank, source)?;
+    balance.copy_from_slice(&balance_entries(slots, counts)?);
+    Ok(n)
+}
+
+/// The third slice that belongs to these slots and counts, or the cause 1 or 2
+/// where they are no sheet.
+pub fn balance_entries(slots: &[u64], counts: &[u16]) -> Result<Balance, Cause> {
+    let (slots, counts) = calls::lent(slots, counts)?;
+    let sheet = calls::checked(slots, counts)?;
+    Ok(third_slice(&sheet, counts, &list(&sheet, slots, counts)))
+}
+
+/// A store that is a timed sheet.
+struct Timed<'a> {
+    sheet: Sheet,
+    slots: &'a Slots,
+    counts: &'a Counts,
+    balance: &'a Balance,
+}
+
+/// The timed sheet in the store, or the cause 1, 2 or 11.
+fn open<'a>(slots: &'a [u64], counts: &'a [u16], balance: &'a [u64]) -> Result<Timed<'a>, Cause> {
+    let balance: &Balance = balance.try_into().map_err(|_| Cause::Lengths)?;
+    let (slots, counts) = calls::lent(slots, counts)?;
+    let sheet = calls::checked(slots, counts)?;
+    let list = list(&sheet, slots, counts);
+    let rises = list.windows(2).all(|pair| key(pair[0]) < key(pair[1]));
+    if !rises || *balance != third_slice(&sheet, counts, &list) {
+        return Err(Cause::NotTimed);
+    }
+    Ok(Timed {
+        sheet,
+        slots,
+        counts,
+        balance,
+    })
+}
+
+/// The entries of a sheet in their order.
+fn list(sheet: &Sheet, slots: &Slots, counts: &Counts) -> Vec<u64> {
+    let mut list = vec![0; sheet.n];
+    sheet.shape.gather(Node::ROOT, slots, counts, &mut list);
+    list
+}
+
+/// 02, F-1: the third slice "holds at the number of each range above the leaves
+/// its balance entry, and zero elsewhere". 01: "It is the first entry of the
+/// right half; the entries before it form the left half."
+fn third_slice(sheet: &Sheet, counts: &Counts, list: &[u64]) -> Balance {
+    let shape = &sheet.shape;
+    let mut balance = [0; BALANCE];
+    for depth in 0..shape.height {
+        let mut before = 0;
+        for node in Node::all_at(depth) {
+            balance[node.number] = list[before + shape.count(counts, node.left())];
+            before += shape.count(counts, node);
+        }
+    }
+    balance
+}
+
+/// The entry, or cause 3.
+fn given(entry: u64) -> Result<u64, Cause> {
+    match entry {
+        0 => Err(Cause::EntryZero),
+        _ => Ok(entry),
+    }
+}
+
+impl Timed<'_> {
+    /// The rank of the entry, or, as an error, the rank at which it would stand:
+    /// the number of entries below it.
+    fn search(&self, entry: u64) -> Result<usize, usize> {
+        let (leaf, mut rank) = self.leaf_of(entry);
+        for slot in self.sheet.shape.entry_slots(leaf, self.counts) {
+            match key(self.slots[slot]).cmp(&key(entry)) {
+                Ordering::Less => rank += 1,
+                Ordering::Equal => return Ok(rank),
+                Ordering::Greater => break,
+            }
+        }
+        Err(rank)
+    }
+
+    /// The leaf that the entry belongs to, and the number of entries before that
+    /// leaf. 02, F-1: "the search goes down by it", the third slice: what is
+    /// below the balance entry of a range belongs to its left half, the balance
+    /// entry itself and what is above it to its right half.
+    fn leaf_of(&self, entry: u64) -> (Node, usize) {
+        let shape = &self.sheet.shape;
+        let (mut node, mut before) = (Node::ROOT, 0);
+        while node.depth < shape.height {
+            let left = node.left();
+            if key(entry) < key(self.balance[node.number]) {
+                node = left;
+            } else {
+                before += shape.count(self.counts, left);
+                node = node.right();
+            }
+        }
+        (node, before)
+    }
+}
