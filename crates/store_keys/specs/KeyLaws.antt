@@ -70,12 +70,6 @@ keys-from low k r [] w h l = absurd (not-suc-le-zero h)
 keys-from low k zero (e ∷ list) w h l = (l, rise-above k (key e) list (omega arith) (w .1))
 keys-from low k (suc r) (e ∷ list) w h l = keys-from (key e) k r list (w .1) (le-of-suc-le-suc h) l
 
-pub keys-behind : (low r : ℕ) (list : List ℕ) → RiseFrom low list → r < length list → KeysAbove (key (getD list r 0)) (drop (suc r) list)
-unfolding RiseFrom
-keys-behind low r [] w h = absurd (not-suc-le-zero h)
-keys-behind low zero (e ∷ list) w h = rise-above (key e) (key e) list (omega arith) (w .1)
-keys-behind low (suc r) (e ∷ list) w h = keys-behind (key e) r list (w .1) (le-of-suc-le-suc h)
-
 -- ---- ranks, and keys that are present
 
 module _ (k : ℕ) where
