@@ -8,6 +8,12 @@
  * N of them, at most SHEET_ENTRIES; their ranks are 0 to N - 1. The store is SHEET_SLOTS slots and SHEET_COUNTS counts. A store of zeros is
  * the empty sheet, and sheet_clear makes any store that one.
  *
+ * Dead heats. Bit 63 of an entry, SHEET_TIED, says that the boat tied with the boat before her, the one that has the next lower rank when the
+ * place is asked for; at rank 0 it has no effect. A tied group is a longest run of boats of which each but the first has tied so; a boat that
+ * has not tied with another is a group of 1. All t boats of a group take the place p of its first boat, her rank plus 1; their points are the
+ * sum of the places p to p + t - 1, over t. Only a place looks at the bit. It is part of the entry: SHEET_TIED alone is an entry, a read gives
+ * the bit back, and it changes only by a delete and an insert.
+ *
  * The counts. Count 0 is the size parameter M; the counts of the ranges of M's tree follow in Van Emde Boas order (document 02, F-5), then
  * the unused ones. Stores from before F-5 have them in the order of the range numbers: convert these once by sheet_to_tree_order. No call
  * converts by itself: a store left in the old order is judged by the new one (above M = 64 expect SHEET_NOT_A_SHEET).
@@ -16,17 +22,17 @@
  * number is 0. A slice that a call may write overlaps no other slice of that call.
  *
  * What a call returns. The returned number is that of the cause that refuses the call, or SHEET_ACCEPTED. The values come back in `answer`,
- * of which a call writes the first two elements:
+ * of which a place writes the first three elements and every other call the first two:
  *
  *     clear           0, 0
  *     insert, delete  the new N, the words read from the tape
  *     read            the entries put into `output`, 0
- *     place           the place, the points
+ *     place           the place p, the sum of the places p to p + t - 1, the number t of boats of the tied group
  *     check           N, 0
  *     conversions     M, 0
  *
- * The first cause, in the order of the numbers, decides. A refused call puts 0, 0 into `answer` and changes nothing else. With fewer than two
- * elements of `answer`, SHEET_ANSWER_SHORT is returned before any cause is looked for, and nothing changes at all.
+ * The first cause, in the order of the numbers, decides. A refused call puts zeros into these two or three elements and changes nothing else.
+ * Where `answer` has fewer than that, SHEET_ANSWER_SHORT is returned before any cause is looked for, and nothing changes at all.
  *
  * Coins. The tape of an insert or a delete is 32-bit words, read from its first element. They are random (uniform and independent), secret,
  * and used once: after an accepted call drop the answer[1] words that it read, and lend those behind them to the next call. SHEET_WORDS words
@@ -48,16 +54,19 @@
 #define SHEET_ENTRIES 1024
 #define SHEET_WORDS 72
 
+/* The bit of an entry that says that the boat tied with the boat before her. */
+#define SHEET_TIED (UINT64_C(1) << 63)
+
 /* The numbers that the calls return. */
 #define SHEET_ACCEPTED 0
 #define SHEET_LENGTHS 1        /* the store has other lengths than SHEET_SLOTS and SHEET_COUNTS */
 #define SHEET_NOT_A_SHEET 2    /* the contents of the store are no sheet */
-#define SHEET_ENTRY_ZERO 3     /* the entry is 0 */
+#define SHEET_ENTRY_ZERO 3     /* the entry is 0; SHEET_TIED alone is an entry */
 #define SHEET_RANK 4           /* the rank is too high, or first is above last */
 #define SHEET_FULL 5           /* insert with SHEET_ENTRIES entries */
 #define SHEET_OUTPUT_SHORT 6   /* the output has fewer than last - first + 1 elements */
 #define SHEET_TAPE_ENDED 7     /* the tape ends before a draw is decided */
-#define SHEET_ANSWER_SHORT 255 /* `answer` has fewer than two elements */
+#define SHEET_ANSWER_SHORT 255 /* `answer` has fewer than three elements (place) or two (every other call) */
 
 #ifdef __cplusplus
 extern "C" {
@@ -78,7 +87,8 @@ size_t sheet_delete(uint64_t *slots, size_t slots_len, uint16_t *counts, size_t 
 size_t sheet_read(const uint64_t *slots, size_t slots_len, const uint16_t *counts, size_t counts_len, size_t first, size_t last,
                   uint64_t *output, size_t output_len, uint64_t *answer, size_t answer_len);
 
-/* The place of the entry at a rank from 0 to N - 1, which is the rank plus 1, and its points, as many as the place. */
+/* The place of the entry at a rank from 0 to N - 1, with the sum and the number t of its tied group: the points are answer[1] over answer[2],
+ * always a whole or a half number. `answer` has at least three elements. A boat alone has the rank plus 1 as place and as sum, and t is 1. */
 size_t sheet_place(const uint64_t *slots, size_t slots_len, const uint16_t *counts, size_t counts_len, size_t rank, uint64_t *answer,
                    size_t answer_len);
 

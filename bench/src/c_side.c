@@ -330,18 +330,6 @@ size_t c_check(const uint64_t *slots, size_t slots_len, const uint16_t *counts, 
     return answered(answer, cause, cause == 0 ? counts[1] : 0, 0);
 }
 
-size_t c_place(const uint64_t *slots, size_t slots_len, const uint16_t *counts, size_t counts_len, size_t rank, uint64_t *answer,
-               size_t answer_len)
-{
-    struct size size;
-    if (answer_len < 2)
-        return SHEET_ANSWER_SHORT;
-    size_t cause = open(slots, slots_len, counts, counts_len, &size);
-    if (cause == 0 && rank >= counts[1])
-        cause = SHEET_RANK;
-    return answered(answer, cause, rank + 1, rank + 1);
-}
-
 /* The leaf with the entry of a rank; the rank becomes that in the leaf. */
 static unsigned find_leaf(const uint16_t *counts, const struct size *size, size_t *rank)
 {
@@ -353,6 +341,68 @@ static unsigned find_leaf(const uint16_t *counts, const struct size *size, size_
         k = 2 * k + right;
     }
     return k - (1u << size->height);
+}
+
+/* How many entries from this one back bear SHEET_TIED, up to the first that does not: the entry has so many before it in its leaf. */
+static size_t tied_back(const uint64_t *slots, const uint16_t *counts, const struct size *size, unsigned leaf, size_t rank)
+{
+    const uint8_t *at = size->places + (1u << size->height);
+    size_t tied = 0;
+    for (;; rank = counts[at[--leaf]] - 1u) {
+        const uint64_t *held = slots + leaf * size->leaf;
+        const uint8_t *slot = spread_of(size->leaf, counts[at[leaf]])->slot;
+        for (size_t i = rank + 1; i-- > 0; tied++)
+            if ((held[slot[i]] & SHEET_TIED) == 0)
+                return tied;
+        if (leaf == 0)
+            return tied;
+    }
+}
+
+/* The same from an entry of a leaf on; there may be no such entry. */
+static size_t tied_on(const uint64_t *slots, const uint16_t *counts, const struct size *size, unsigned leaf, size_t rank)
+{
+    unsigned leaves = 1u << size->height;
+    const uint8_t *at = size->places + leaves;
+    size_t tied = 0;
+    for (; leaf < leaves; leaf++, rank = 0) {
+        const uint64_t *held = slots + leaf * size->leaf;
+        size_t n = counts[at[leaf]];
+        const uint8_t *slot = spread_of(size->leaf, (unsigned)n)->slot;
+        for (; rank < n; rank++, tied++)
+            if ((held[slot[rank]] & SHEET_TIED) == 0)
+                return tied;
+    }
+    return tied;
+}
+
+/* The place of a rank that is there, the sum of the places and the number of boats of its tied group. */
+static void place_of(const uint64_t *slots, const uint16_t *counts, const struct size *size, size_t rank, uint64_t *answer)
+{
+    size_t in_leaf = rank;
+    unsigned leaf = find_leaf(counts, size, &in_leaf);
+    size_t before = tied_back(slots, counts, size, leaf, in_leaf);
+    before -= before > rank;    /* the bit at rank 0 has no effect */
+    size_t place = rank - before + 1, t = before + 1 + tied_on(slots, counts, size, leaf, in_leaf + 1);
+    answer[0] = place;
+    answer[1] = t * (2 * place + t - 1) / 2;
+    answer[2] = t;
+}
+
+size_t c_place(const uint64_t *slots, size_t slots_len, const uint16_t *counts, size_t counts_len, size_t rank, uint64_t *answer,
+               size_t answer_len)
+{
+    struct size size;
+    if (answer_len < 3)
+        return SHEET_ANSWER_SHORT;
+    size_t cause = open(slots, slots_len, counts, counts_len, &size);
+    if (cause == 0 && rank >= counts[1])
+        cause = SHEET_RANK;
+    if (cause == 0)
+        place_of(slots, counts, &size, rank, answer);
+    else
+        memset(answer, 0, 3 * sizeof *answer);
+    return cause;
 }
 
 /* Copies entries of a leaf: so many, rounded up to what four divides. */
@@ -673,7 +723,13 @@ size_t c_delete(uint64_t *slots, size_t slots_len, uint16_t *counts, size_t coun
     for (unsigned step = (leaves) / 2, k = 1; step > 0; step /= 2)                 \
         for (unsigned leaf = step; leaf < (leaves); leaf += 2 * step, k++)
 
-/* Puts the first entry of each leaf into `firsts`; whether some entry is not above the one before it. */
+/* What the entries of a timed sheet are compared by. */
+static uint64_t key(uint64_t entry)
+{
+    return entry & ~SHEET_TIED;
+}
+
+/* Puts the first entry of each leaf into `firsts`; whether some key is not above the one before it, or the first is 0. */
 static bool falls(const uint64_t *slots, const uint16_t *counts, const struct size *size, uint64_t *firsts)
 {
     unsigned leaves = 1u << size->height;
@@ -685,8 +741,8 @@ static bool falls(const uint64_t *slots, const uint16_t *counts, const struct si
         const uint8_t *slot = spread_of(size->leaf, n)->slot;
         firsts[leaf] = slots[slot[0]];
         for (unsigned i = 0; i < n; i++) {
-            fall |= slots[slot[i]] <= last;
-            last = slots[slot[i]];
+            fall |= key(slots[slot[i]]) <= last;
+            last = key(slots[slot[i]]);
         }
     }
     return fall;
@@ -722,23 +778,24 @@ static void write_balance(const uint64_t *slots, const uint16_t *counts, uint64_
     memset(balance + leaves, 0, (TIMED_BALANCE - leaves) * sizeof *balance);
 }
 
-/* The number of entries below this one, and whether it is there. */
+/* The number of keys below that of this entry, and whether it is there. */
 static size_t search(const uint64_t *slots, const uint16_t *counts, const uint64_t *balance, const struct size *size, uint64_t entry,
                      bool *there)
 {
+    uint64_t wanted = key(entry);
     unsigned k = 1, leaves = 1u << size->height;
     size_t before = 0;
     while (k < leaves) {
-        bool right = balance[k] <= entry;
+        bool right = key(balance[k]) <= wanted;
         before += right ? counts[size->places[2 * k]] : 0;
         k = 2 * k + right;
     }
     unsigned n = counts[size->places[k]], i = 0;
     const uint64_t *leaf = slots + (k - leaves) * size->leaf;
     const uint8_t *slot = spread_of(size->leaf, n)->slot;
-    while (i < n && leaf[slot[i]] < entry)
+    while (i < n && key(leaf[slot[i]]) < wanted)
         i++;
-    *there = i < n && leaf[slot[i]] == entry;
+    *there = i < n && key(leaf[slot[i]]) == wanted;
     return before + i;
 }
 
@@ -761,7 +818,7 @@ size_t c_timed_find(const uint64_t *slots, size_t slots_len, const uint16_t *cou
     if (answer_len < 2)
         return SHEET_ANSWER_SHORT;
     size_t cause = open_timed(slots, slots_len, counts, counts_len, balance, balance_len, &size);
-    if (cause == 0 && entry == 0)
+    if (cause == 0 && key(entry) == 0)
         cause = SHEET_ENTRY_ZERO;
     if (cause == 0)
         rank = search(slots, counts, balance, &size, entry, &there);
@@ -777,7 +834,7 @@ size_t c_timed_insert(uint64_t *slots, size_t slots_len, uint16_t *counts, size_
     if (answer_len < 2)
         return SHEET_ANSWER_SHORT;
     size_t cause = open_timed(slots, slots_len, counts, counts_len, balance, balance_len, &size);
-    if (cause == 0 && entry == 0)
+    if (cause == 0 && key(entry) == 0)
         cause = SHEET_ENTRY_ZERO;
     if (cause == 0)
         rank = search(slots, counts, balance, &size, entry, &there);

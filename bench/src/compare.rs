@@ -5,6 +5,7 @@
 use crate::sides::{Plain, Proved, Reference, Returned, Side, Store, C};
 use crate::{Arguments, TAPE};
 use reference::layout::{Node, Shape, COUNTS, SLOTS};
+use reference::places::TIED;
 use reference::random::SplitMix64;
 use reference::sizes::{candidate_positions, MAX_ENTRIES};
 
@@ -159,6 +160,13 @@ fn damage(store: &mut Store, random: &mut SplitMix64) {
     }
 }
 
+/// Ties all boats but a few.
+fn tie(store: &mut Store, random: &mut SplitMix64) {
+    for slot in store.slots.iter_mut().filter(|slot| **slot != 0) {
+        *slot |= if random.below(200) == 0 { 0 } else { TIED };
+    }
+}
+
 /// Takes an element from the slots or the counts, or puts one behind them.
 fn other_lengths(store: &mut Store, random: &mut SplitMix64) {
     match random.below(4) {
@@ -177,6 +185,9 @@ pub fn with_reference() {
     for trial in 0..TRIALS {
         let mut store = if trial % 4 == 0 { laid_out(&mut random) } else { sheets[random.below(sheets.len())].clone() };
         let n = usize::from(store.counts[1]);
+        if trial % 5 == 0 {
+            tie(&mut store, &mut random);
+        }
         for _ in 0..random.below(3) {
             damage(&mut store, &mut random);
         }

@@ -8,6 +8,10 @@
 //! the median, and between which values the middle four fifths lie. The goal of
 //! a row is a cost in bare scans (docs/PERFORMANCE.md).
 //!
+//! Entries are random: every second one bears bit 63, so that a tied group has
+//! two boats on the average. The rows "place tied" are on copies of the stores on
+//! which all boats tie.
+//!
 //! Before the measuring all sides are compared with `tests/reference`
 //! ([`compare`]), before each length with each other, and after each turn the
 //! stores of all sides are equal.
@@ -18,6 +22,7 @@ mod sides;
 mod timed_sheets;
 mod tree_order;
 
+use reference::places::TIED;
 use reference::random::SplitMix64;
 use sides::{Plain, Proved, Returned, Side, Store, C};
 use std::hint::black_box;
@@ -90,18 +95,28 @@ struct Times {
     delete: f64,
     read: f64,
     place: f64,
+    tied: f64,
 }
 
-/// A kind of call: its name, its time in a measurement, and its goal at each length, in bare scans of the store.
-type Kind = (&'static str, fn(&Times) -> f64, [f64; LENGTHS.len()]);
+/// A kind of call: its name, its time in a measurement, and its goal at each length, in bare scans of the store, if it has one.
+type Kind = (&'static str, fn(&Times) -> f64, Option<[f64; LENGTHS.len()]>);
 
-const KINDS: [Kind; 5] = [
-    ("check", |t| t.check, [1.2, 1.3, 1.7, 2.5, 3.8]),
-    ("insert", |t| t.insert, [1.3, 1.9, 2.4, 3.9, 5.5]),
-    ("delete", |t| t.delete, [1.3, 1.9, 2.4, 3.9, 5.5]),
-    ("read 64", |t| t.read, [1.4, 1.5, 1.9, 2.9, 4.4]),
-    ("place", |t| t.place, [1.2, 1.3, 1.7, 2.5, 3.8]),
+const KINDS: [Kind; 6] = [
+    ("check", |t| t.check, Some([1.2, 1.3, 1.7, 2.5, 3.8])),
+    ("insert", |t| t.insert, Some([1.3, 1.9, 2.4, 3.9, 5.5])),
+    ("delete", |t| t.delete, Some([1.3, 1.9, 2.4, 3.9, 5.5])),
+    ("read 64", |t| t.read, Some([1.4, 1.5, 1.9, 2.9, 4.4])),
+    ("place", |t| t.place, Some([1.2, 1.3, 1.7, 2.5, 3.8])),
+    ("place tied", |t| t.tied, None),
 ];
+
+/// Copies of the stores on which all boats tie.
+fn all_tied(stores: &[Store]) -> Vec<Store> {
+    let mut tied = stores.to_vec();
+    let slots = tied.iter_mut().flat_map(|store| &mut store.slots);
+    slots.filter(|slot| **slot != 0).for_each(|slot| *slot |= TIED);
+    tied
+}
 
 /// One measurement of all calls on stores of n entries. Inserts and deletes
 /// come in turn, so that the stores have n entries again at the end.
@@ -131,13 +146,16 @@ fn measure<S: Side>(n: usize, stores: &mut [Store], arguments: &[Arguments]) -> 
             }
         }
     });
-    times.place = time_of(calls, || {
+    let places = |stores: &[Store]| {
         for round in rounds() {
             for (store, a) in stores.iter().zip(round) {
                 accepted(S::place(black_box(store), a.rank(n)));
             }
         }
-    });
+    };
+    times.place = time_of(calls, || places(stores));
+    let tied = all_tied(stores);
+    times.tied = time_of(calls, || places(&tied));
     times.read = time_of(calls, || {
         for round in rounds() {
             for (store, a) in stores.iter().zip(round) {
@@ -205,7 +223,7 @@ impl Within {
 
 const ALL_WITHIN: Within = Within { side: true, goal: true };
 
-/// Prints one row. The rows of building and of timed sheets have no goal.
+/// Prints one row. The rows of tied boats, of building and of timed sheets have no goal.
 fn row(kind: &str, n: &str, taken: &Taken, scan: f64, goal: Option<f64>) -> Within {
     let Taken { proved, c, plain } = taken;
     let fastest = plain.as_ref().filter(|plain| median(plain) < median(c)).unwrap_or(c);
@@ -257,7 +275,7 @@ fn rows_at(at: usize, times: usize, random: &mut SplitMix64, all_scans: &mut Vec
     all_scans.append(&mut scans);
     KINDS.iter().fold(ALL_WITHIN, |within, (kind, time, goals)| {
         let [proved, c, plain] = [0, 1, 2].map(|side: usize| taken[side].iter().map(time).collect::<Vec<f64>>());
-        within.and(row(kind, &n.to_string(), &Taken { proved, c, plain: Some(plain) }, scan, Some(goals[at])))
+        within.and(row(kind, &n.to_string(), &Taken { proved, c, plain: Some(plain) }, scan, goals.map(|goals| goals[at])))
     })
 }
 

@@ -2,8 +2,10 @@
 //! for each call, no comparison of candidates one by one. `tests/reference` is
 //! written to be read beside the paper; a ratio to it would say little.
 
+use crate::sides::Returned;
 use crate::tree_order::{places, Places};
 use reference::layout::{COUNTS, SLOTS};
+use reference::places::TIED;
 use reference::sizes::MAX_ENTRIES;
 
 type Counts = [u16; COUNTS];
@@ -356,16 +358,16 @@ fn lay_part(slots: &mut [u64], old: Size, new: Size, part: &Part, entry: u64, co
     }
 }
 
-fn change(slots: &mut [u64], counts: &mut [u16], old: Size, n: usize, change: Change, entry: u64, tape: &[u32]) -> [u64; 3] {
+fn change(slots: &mut [u64], counts: &mut [u16], old: Size, n: usize, change: Change, entry: u64, tape: &[u32]) -> Returned {
     let counts: &mut Counts = counts.try_into().expect("the lengths are right");
     let mut tape = Tape { words: tape, place: 0 };
     let mut work = *counts;
     let Some((new, part)) = plan(&mut work, old, n, change, &mut tape) else {
-        return [TAPE_ENDS, 0, 0];
+        return [TAPE_ENDS, 0, 0, 0];
     };
     lay_part(slots, old, new, &part, entry, &work);
     *counts = work;
-    [0, change.after(n) as u64, tape.place as u64]
+    [0, change.after(n) as u64, tape.place as u64, 0]
 }
 
 fn plan(work: &mut Counts, old: Size, n: usize, change: Change, tape: &mut Tape) -> Option<(Size, Part)> {
@@ -381,60 +383,77 @@ fn plan(work: &mut Counts, old: Size, n: usize, change: Change, tape: &mut Tape)
     }
 }
 
-pub fn check(slots: &[u64], counts: &[u16]) -> [u64; 3] {
+pub fn check(slots: &[u64], counts: &[u16]) -> Returned {
     match open(slots, counts) {
-        Ok((_, n)) => [0, n as u64, 0],
-        Err(cause) => [cause, 0, 0],
+        Ok((_, n)) => [0, n as u64, 0, 0],
+        Err(cause) => [cause, 0, 0, 0],
     }
 }
 
-pub fn place(slots: &[u64], counts: &[u16], rank: usize) -> [u64; 3] {
-    match open(slots, counts) {
-        Ok((_, n)) if rank >= n => [4, 0, 0],
-        Ok(_) => [0, rank as u64 + 1, rank as u64 + 1],
-        Err(cause) => [cause, 0, 0],
-    }
-}
-
-pub fn read(slots: &[u64], counts: &[u16], first: usize, last: usize, output: &mut [u64]) -> [u64; 3] {
+pub fn place(slots: &[u64], counts: &[u16], rank: usize) -> Returned {
     let size = match open(slots, counts) {
-        Ok((_, n)) if last >= n || first > last => return [4, 0, 0],
+        Ok((_, n)) if rank >= n => return [4, 0, 0, 0],
         Ok((size, _)) => size,
-        Err(cause) => return [cause, 0, 0],
+        Err(cause) => return [cause, 0, 0, 0],
     };
-    let count = last - first + 1;
-    let Some(output) = output.get_mut(..count) else {
-        return [6, 0, 0];
-    };
-    // The leaf that holds the first of them, and how many stand before it there.
     let counts: &Counts = counts.try_into().expect("the lengths are right");
+    let (leaf, in_leaf) = find_leaf(&size, counts, rank);
+    let mut at = Slots::new(size.leaf, size.count(counts, size.leaves() + leaf));
+    (0..in_leaf).for_each(|_| at.advance());
+    let (back, on) = slots[..size.leaf * size.leaves()].split_at(leaf * size.leaf + at.slot + 1);
+    // Those of the boats up to this rank that tied with the boat before; the bit at rank 0 has no effect.
+    let held = |slot: &&u64| **slot != 0;
+    let ties = |entry: &&u64| **entry & TIED != 0;
+    let before = back.iter().rev().filter(held).take_while(ties).count().min(rank);
+    let behind = on.iter().filter(held).take_while(ties).count();
+    let (place, t) = ((rank - before + 1) as u64, (before + 1 + behind) as u64);
+    [0, place, t * (2 * place + t - 1) / 2, t]
+}
+
+/// The leaf that holds the entry of this rank, and how many stand before it there.
+fn find_leaf(size: &Size, counts: &Counts, rank: usize) -> (usize, usize) {
     let leaves = size.leaves();
-    let (mut leaf, mut before) = (0, first);
+    let (mut leaf, mut before) = (0, rank);
     while before >= size.count(counts, leaves + leaf) {
         before -= size.count(counts, leaves + leaf);
         leaf += 1;
     }
+    (leaf, before)
+}
+
+pub fn read(slots: &[u64], counts: &[u16], first: usize, last: usize, output: &mut [u64]) -> Returned {
+    let size = match open(slots, counts) {
+        Ok((_, n)) if last >= n || first > last => return [4, 0, 0, 0],
+        Ok((size, _)) => size,
+        Err(cause) => return [cause, 0, 0, 0],
+    };
+    let count = last - first + 1;
+    let Some(output) = output.get_mut(..count) else {
+        return [6, 0, 0, 0];
+    };
+    let counts: &Counts = counts.try_into().expect("the lengths are right");
+    let (leaf, before) = find_leaf(&size, counts, first);
     let held = slots[leaf * size.leaf..].iter().filter(|&&slot| slot != 0).skip(before);
     for (place, &entry) in output.iter_mut().zip(held) {
         *place = entry;
     }
-    [0, count as u64, 0]
+    [0, count as u64, 0, 0]
 }
 
-pub fn insert(slots: &mut [u64], counts: &mut [u16], rank: usize, entry: u64, tape: &[u32]) -> [u64; 3] {
+pub fn insert(slots: &mut [u64], counts: &mut [u16], rank: usize, entry: u64, tape: &[u32]) -> Returned {
     match open(slots, counts) {
-        Ok(_) if entry == 0 => [3, 0, 0],
-        Ok((_, n)) if rank > n => [4, 0, 0],
-        Ok((_, n)) if n == MAX_ENTRIES => [5, 0, 0],
+        Ok(_) if entry == 0 => [3, 0, 0, 0],
+        Ok((_, n)) if rank > n => [4, 0, 0, 0],
+        Ok((_, n)) if n == MAX_ENTRIES => [5, 0, 0, 0],
         Ok((size, n)) => change(slots, counts, size, n, Change::Insert(rank), entry, tape),
-        Err(cause) => [cause, 0, 0],
+        Err(cause) => [cause, 0, 0, 0],
     }
 }
 
-pub fn delete(slots: &mut [u64], counts: &mut [u16], rank: usize, tape: &[u32]) -> [u64; 3] {
+pub fn delete(slots: &mut [u64], counts: &mut [u16], rank: usize, tape: &[u32]) -> Returned {
     match open(slots, counts) {
-        Ok((_, n)) if rank >= n => [4, 0, 0],
+        Ok((_, n)) if rank >= n => [4, 0, 0, 0],
         Ok((size, n)) => change(slots, counts, size, n, Change::Delete(rank), 0, tape),
-        Err(cause) => [cause, 0, 0],
+        Err(cause) => [cause, 0, 0, 0],
     }
 }

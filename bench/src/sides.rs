@@ -20,8 +20,9 @@ impl Store {
     }
 }
 
-/// The number of the cause or 0, and the two values.
-pub type Returned = [u64; 3];
+/// The number of the cause or 0, and the values: three of place, two of every
+/// other call and a zero behind them.
+pub type Returned = [u64; 4];
 
 /// The five calls that are measured, each with all of its checks.
 pub trait Side {
@@ -82,14 +83,14 @@ macro_rules! side_in_c {
             fn check(store: &Store) -> Returned {
                 let (s, c, mut a) = (&store.slots, &store.counts, [0; 2]);
                 let number = unsafe { $check(s.as_ptr(), s.len(), c.as_ptr(), c.len(), a.as_mut_ptr(), 2) };
-                [number as u64, a[0], a[1]]
+                [number as u64, a[0], a[1], 0]
             }
 
             #[inline(never)]
             fn place(store: &Store, rank: usize) -> Returned {
-                let (s, c, mut a) = (&store.slots, &store.counts, [0; 2]);
-                let number = unsafe { $place(s.as_ptr(), s.len(), c.as_ptr(), c.len(), rank, a.as_mut_ptr(), 2) };
-                [number as u64, a[0], a[1]]
+                let (s, c, mut a) = (&store.slots, &store.counts, [0; 3]);
+                let number = unsafe { $place(s.as_ptr(), s.len(), c.as_ptr(), c.len(), rank, a.as_mut_ptr(), 3) };
+                [number as u64, a[0], a[1], a[2]]
             }
 
             #[inline(never)]
@@ -97,7 +98,7 @@ macro_rules! side_in_c {
                 let (s, c, mut a) = (&store.slots, &store.counts, [0; 2]);
                 let (o, o_len) = (output.as_mut_ptr(), output.len());
                 let number = unsafe { $read(s.as_ptr(), s.len(), c.as_ptr(), c.len(), first, last, o, o_len, a.as_mut_ptr(), 2) };
-                [number as u64, a[0], a[1]]
+                [number as u64, a[0], a[1], 0]
             }
 
             #[inline(never)]
@@ -105,7 +106,7 @@ macro_rules! side_in_c {
                 let (s, c, mut a) = (&mut store.slots, &mut store.counts, [0; 2]);
                 let (t, t_len) = (tape.as_ptr(), tape.len());
                 let number = unsafe { $insert(s.as_mut_ptr(), s.len(), c.as_mut_ptr(), c.len(), rank, entry, t, t_len, a.as_mut_ptr(), 2) };
-                [number as u64, a[0], a[1]]
+                [number as u64, a[0], a[1], 0]
             }
 
             #[inline(never)]
@@ -113,7 +114,7 @@ macro_rules! side_in_c {
                 let (s, c, mut a) = (&mut store.slots, &mut store.counts, [0; 2]);
                 let (t, t_len) = (tape.as_ptr(), tape.len());
                 let number = unsafe { $delete(s.as_mut_ptr(), s.len(), c.as_mut_ptr(), c.len(), rank, t, t_len, a.as_mut_ptr(), 2) };
-                [number as u64, a[0], a[1]]
+                [number as u64, a[0], a[1], 0]
             }
         }
     };
@@ -134,8 +135,8 @@ side_in_c!(C, c_check, c_place, c_read, c_insert, c_delete);
 pub struct Reference;
 
 pub fn returned(answer: Answer) -> Returned {
-    let [first, second] = answer.values();
-    [answer.number() as u64, first as u64, second as u64]
+    let [first, second, third] = answer.values().map(|value| value as u64);
+    [answer.number().into(), first, second, third]
 }
 
 impl Side for Reference {

@@ -4,6 +4,7 @@
 
 use crate::sides::{returned, Proved, Reference, Returned, Store, C};
 use crate::{accepted, median, row, scan_time, time_of, Arguments, Taken, Within, ALL_WITHIN, ROUNDS, STORES};
+use reference::places::TIED;
 use reference::random::SplitMix64;
 use reference::timed;
 use std::hint::black_box;
@@ -88,14 +89,14 @@ macro_rules! timed_side_in_c {
             fn check(store: &TimedStore) -> Returned {
                 let (s, c, b, mut a) = (&store.plain.slots, &store.plain.counts, &store.balance, [0; 2]);
                 let number = unsafe { $check(s.as_ptr(), s.len(), c.as_ptr(), c.len(), b.as_ptr(), b.len(), a.as_mut_ptr(), 2) };
-                [number as u64, a[0], a[1]]
+                [number as u64, a[0], a[1], 0]
             }
 
             #[inline(never)]
             fn find(store: &TimedStore, entry: u64) -> Returned {
                 let (s, c, b, mut a) = (&store.plain.slots, &store.plain.counts, &store.balance, [0; 2]);
                 let number = unsafe { $find(s.as_ptr(), s.len(), c.as_ptr(), c.len(), b.as_ptr(), b.len(), entry, a.as_mut_ptr(), 2) };
-                [number as u64, a[0], a[1]]
+                [number as u64, a[0], a[1], 0]
             }
 
             #[inline(never)]
@@ -104,7 +105,7 @@ macro_rules! timed_side_in_c {
                 let (t, t_len, mut a) = (tape.as_ptr(), tape.len(), [0; 2]);
                 let (s, s_len, c, c_len) = (s.as_mut_ptr(), s.len(), c.as_mut_ptr(), c.len());
                 let number = unsafe { $insert(s, s_len, c, c_len, b.as_mut_ptr(), b.len(), entry, t, t_len, a.as_mut_ptr(), 2) };
-                [number as u64, a[0], a[1]]
+                [number as u64, a[0], a[1], 0]
             }
 
             #[inline(never)]
@@ -113,7 +114,7 @@ macro_rules! timed_side_in_c {
                 let (t, t_len, mut a) = (tape.as_ptr(), tape.len(), [0; 2]);
                 let (s, s_len, c, c_len) = (s.as_mut_ptr(), s.len(), c.as_mut_ptr(), c.len());
                 let number = unsafe { $delete(s, s_len, c, c_len, b.as_mut_ptr(), b.len(), rank, t, t_len, a.as_mut_ptr(), 2) };
-                [number as u64, a[0], a[1]]
+                [number as u64, a[0], a[1], 0]
             }
         }
     };
@@ -158,8 +159,10 @@ fn given<S: TimedSide>(store: &TimedStore, entry: u64, a: &Arguments, n: usize) 
 fn damage(store: &mut TimedStore, random: &mut SplitMix64) {
     let TimedStore { plain: Store { slots, counts }, balance } = store;
     let (slot, word) = (random.below(slots.len()), random.below(balance.len()));
-    match random.below(6) {
+    match random.below(8) {
         0 => balance[word] ^= 1 << random.below(64),
+        6 => balance[word] ^= TIED,
+        7 => slots[slot] ^= TIED,
         1 => balance[word] = 0,
         2 => slots[slot] = 0,
         3 => slots[slot] = random.entry(),
@@ -175,7 +178,7 @@ fn compare(n: usize, stores: &[TimedStore], random: &mut SplitMix64) {
         let mut store = stores[trial % stores.len()].clone();
         let a = Arguments::new(random);
         let there = store.entry(a.rank(n));
-        let entry = [a.entry, there, there + 1, 0][random.below(4)];
+        let entry = [a.entry, there, there ^ TIED, there + 1, 0, TIED][random.below(6)];
         if trial % 2 == 0 {
             damage(&mut store, random);
         }

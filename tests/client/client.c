@@ -1,6 +1,8 @@
-/* A small display program: enters boats, strikes one out, and prints place, points and sail number of each; then a full sheet; then a store
- * whose counts stand in number order; then the kinds of some lines, and what frames are answered by on a cleared sheet. */
+/* A small display program: enters boats, two of them in a dead heat, strikes one out, and prints place, points and sail number of each; then
+ * a full sheet; then a store whose counts stand in number order; then the kinds of some lines, and what frames are answered by on a cleared
+ * sheet. */
 #include "frames.h"
+#include "points.h"
 #include "sheet.h"
 #include "tape.h"
 
@@ -10,7 +12,7 @@
 
 static uint64_t slots[SHEET_SLOTS];
 static uint16_t counts[SHEET_COUNTS];
-static uint64_t answer[2];
+static uint64_t answer[3];
 static uint32_t frame_words[FRAME_TAPE_WORDS];
 static uint8_t answers[FRAME_OUTPUT];
 
@@ -42,8 +44,10 @@ static void display(void) {
     printf("%zu boats\n", n);
     accepted("read", sheet_read(slots, SHEET_SLOTS, counts, SHEET_COUNTS, 0, n - 1, output, SHEET_ENTRIES, answer, 2));
     for (i = 0; i < n; i++) {
-        accepted("place", sheet_place(slots, SHEET_SLOTS, counts, SHEET_COUNTS, i, answer, 2));
-        printf("%" PRIu64 " %" PRIu64 " %" PRIu64 "\n", answer[0], answer[1], output[i]);
+        accepted("place", sheet_place(slots, SHEET_SLOTS, counts, SHEET_COUNTS, i, answer, 3));
+        printf("%" PRIu64 " ", answer[0]);
+        print_points(answer[1], answer[2]);
+        printf(" %" PRIu64 "\n", output[i] & ~SHEET_TIED);
     }
 }
 
@@ -79,8 +83,8 @@ static void convert(void) {
 }
 
 int main(void) {
-    static const uint64_t boats[] = {117, 42, 2024, 7, 311};
-    static const char *const frames[] = {"010000000000000000000A", "0400000001", "010001000000000000000B", "05"};
+    static const uint64_t boats[] = {117, 42 | SHEET_TIED, 2024, 7, 311};
+    static const char *const frames[] = {"010000000000000000000A", "0400000001", "010001800000000000000B", "070000", "070001", "05"};
     static const char *const lines[] = {"010000000000000000000A", "0400000001", "05", "0a", ""};
     const size_t n = sizeof boats / sizeof boats[0];
     uint64_t frame_waiting[1] = {0};
@@ -92,9 +96,10 @@ int main(void) {
     delete(2);
     display();
 
-    printf("rank too high: %zu\n", sheet_place(slots, SHEET_SLOTS, counts, SHEET_COUNTS, n, answer, 2));
+    printf("rank too high: %zu\n", sheet_place(slots, SHEET_SLOTS, counts, SHEET_COUNTS, n, answer, 3));
     printf("no tape: %zu\n", sheet_insert(slots, SHEET_SLOTS, counts, SHEET_COUNTS, 0, 5, tape, 0, answer, 2));
-    printf("answer too short: %zu\n", sheet_check(slots, SHEET_SLOTS, counts, SHEET_COUNTS, answer, 1));
+    printf("answer too short: %zu", sheet_check(slots, SHEET_SLOTS, counts, SHEET_COUNTS, answer, 1));
+    printf(", %zu\n", sheet_place(slots, SHEET_SLOTS, counts, SHEET_COUNTS, 0, answer, 2));
 
     fill();
     convert();

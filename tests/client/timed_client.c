@@ -1,5 +1,7 @@
-/* A small display program for timed finishes: enters boats in the order in which their finishes come in, asks for some of them, strikes one
- * out, and prints place, time and sail number of each; then causes that a call is refused by; then a full sheet, each boat of which is found. */
+/* A small display program for timed finishes: enters boats in the order in which their finishes come in, two of them in a dead heat, asks for
+ * some of them, strikes one out, and prints place, points, time and sail number of each; then causes that a call is refused by; then a full
+ * sheet, each boat of which is found. */
+#include "points.h"
 #include "tape.h"
 #include "timed.h"
 
@@ -9,7 +11,7 @@
 static uint64_t slots[SHEET_SLOTS];
 static uint16_t counts[SHEET_COUNTS];
 static uint64_t balance[TIMED_BALANCE];
-static uint64_t answer[2];
+static uint64_t answer[3];
 
 /* The three slices of the store, as every call takes them. */
 #define STORE slots, SHEET_SLOTS, counts, SHEET_COUNTS, balance, TIMED_BALANCE
@@ -43,7 +45,7 @@ static void ask(uint32_t time, uint32_t sail) {
     printf("sail %u at %u: %s, rank %" PRIu64 "\n", sail, time, answer[0] == 1 ? "there" : "absent", answer[1]);
 }
 
-/* Prints the number of boats and a line for each: place, time and sail number. */
+/* Prints the number of boats and a line for each: place, points, time and sail number. */
 static void display(void) {
     uint64_t output[SHEET_ENTRIES];
     size_t i, n;
@@ -53,12 +55,15 @@ static void display(void) {
     printf("%zu boats\n", n);
     accepted("read", timed_read(STORE, 0, n - 1, output, SHEET_ENTRIES, answer, 2));
     for (i = 0; i < n; i++) {
-        accepted("place", timed_place(STORE, i, answer, 2));
-        printf("%" PRIu64 " %" PRIu64 " %" PRIu64 "\n", answer[0], output[i] >> 32, output[i] & UINT32_MAX);
+        accepted("place", timed_place(STORE, i, answer, 3));
+        printf("%" PRIu64 " ", answer[0]);
+        print_points(answer[1], answer[2]);
+        printf(" %" PRIu64 " %" PRIu64 "\n", (output[i] & ~SHEET_TIED) >> 32, output[i] & UINT32_MAX);
     }
 }
 
-/* Finishes in the order in which they come in; sail numbers 42 and 7 have the same time. */
+/* Finishes in the order in which they come in. Sail numbers 42 and 7 have the same time and did not tie; 400 and 311 tied, which the entry of
+ * the one behind says. */
 static void race(void) {
     static const uint32_t finishes[][2] = {{3720, 311}, {3605, 42}, {3605, 7}, {3590, 2024}, {4001, 117}};
     size_t i;
@@ -66,6 +71,9 @@ static void race(void) {
     accepted("clear", timed_clear(STORE, answer, 2));
     for (i = 0; i < sizeof finishes / sizeof finishes[0]; i++)
         insert(finish(finishes[i][0], finishes[i][1]));
+    insert(finish(3720, 400) | SHEET_TIED);
+    display();
+    ask(3720, 400);
     ask(3605, 42);
     ask(3606, 42);
     accepted("find", timed_find(STORE, finish(3605, 42), answer, 2));
@@ -77,24 +85,40 @@ static void race(void) {
 /* What the calls are refused by. */
 static void refusals(void) {
     printf("entered again: %zu\n", timed_insert(STORE, finish(3605, 7), tape, waiting, answer, 2));
+    printf("entered again, tied: %zu\n", timed_insert(STORE, finish(3605, 7) | SHEET_TIED, tape, waiting, answer, 2));
     printf("entry zero: %zu, %zu\n", timed_insert(STORE, 0, tape, waiting, answer, 2), timed_find(STORE, 0, answer, 2));
-    printf("rank too high: %zu\n", timed_place(STORE, 4, answer, 2));
+    printf("the bit alone: %zu, %zu\n", timed_insert(STORE, SHEET_TIED, tape, waiting, answer, 2), timed_find(STORE, SHEET_TIED, answer, 2));
+    printf("rank too high: %zu\n", timed_place(STORE, 5, answer, 3));
     printf("no tape: %zu\n", timed_insert(STORE, finish(3605, 8), tape, 0, answer, 2));
-    printf("answer too short: %zu\n", timed_check(STORE, answer, 1));
+    printf("answer too short: %zu, %zu\n", timed_check(STORE, answer, 1), timed_place(STORE, 0, answer, 2));
     printf("third slice too short: %zu\n", timed_check(slots, SHEET_SLOTS, counts, SHEET_COUNTS, balance, TIMED_BALANCE - 1, answer, 2));
     balance[0] = 1;
     printf("third slice wrong: %zu\n", timed_check(STORE, answer, 2));
     balance[0] = 0;
 }
 
-/* The boat that comes in as number i of a full sheet: every sail number from 1 to SHEET_ENTRIES once, out of order. */
+/* The boat that comes in as number i of a full sheet: every sail number from 1 to SHEET_ENTRIES once, out of order. Boats of the same time
+ * tied. */
 static uint64_t boat(size_t i) {
     uint32_t sail = (uint32_t)(i * 389 % SHEET_ENTRIES) + 1;
 
-    return finish(3600 + sail / 4, sail);
+    return finish(3600 + sail / 4, sail) | (sail % 4 != 0 ? SHEET_TIED : 0);
 }
 
-/* Fills the sheet, finds each boat and each balance entry, and strikes the first half out. */
+/* The points of all boats together, which ties do not change, and the number of boats of each tied group, counted once for each of them. */
+static void add_up(void) {
+    uint64_t half_points = 0, boats = 0;
+    size_t i;
+
+    for (i = 0; i < SHEET_ENTRIES; i++) {
+        accepted("place", timed_place(STORE, i, answer, 3));
+        half_points += 2 * answer[1] / answer[2];
+        boats += answer[2];
+    }
+    printf("all points: %" PRIu64 ", boats of the groups: %" PRIu64 "\n", half_points / 2, boats);
+}
+
+/* Fills the sheet, finds each boat and each balance entry, adds the points up, and strikes the first half out. */
 static void fill(void) {
     size_t i, found = 0, absent = 0;
 
@@ -102,7 +126,7 @@ static void fill(void) {
     for (i = 0; i < SHEET_ENTRIES; i++)
         insert(boat(i));
     for (i = 0; i < SHEET_ENTRIES; i++) {
-        accepted("find", timed_find(STORE, boat(i), answer, 2));
+        accepted("find", timed_find(STORE, boat(i) ^ SHEET_TIED, answer, 2));
         found += answer[0] == 1 && answer[1] + 1 == (boat(i) & UINT32_MAX);
     }
     printf("found at their ranks: %zu\n", found);
@@ -112,6 +136,10 @@ static void fill(void) {
             absent += answer[0] != 1;
         }
     printf("balance entries that are absent: %zu\n", absent);
+    balance[1] ^= SHEET_TIED;
+    printf("the other bit in the third slice: %zu\n", timed_check(STORE, answer, 2));
+    balance[1] ^= SHEET_TIED;
+    add_up();
     printf("one boat too many: %zu\n", timed_insert(STORE, finish(1, 1), tape, waiting, answer, 2));
     printf("entered again: %zu\n", timed_insert(STORE, boat(5), tape, waiting, answer, 2));
     for (i = 0; i < SHEET_ENTRIES / 2; i++)

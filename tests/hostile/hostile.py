@@ -74,7 +74,7 @@ class Sheet:
     def answer_7(self, line):
         if int(line[2:], 16) >= (self.entry is not None):
             return self.head(0x87, 4)
-        return self.head(0x87, 0)[:-1] + b"00010001\n"
+        return self.head(0x87, 0)[:-1] + b"0001000000010001\n"
 
 
 def expected(data):

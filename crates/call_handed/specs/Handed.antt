@@ -1,8 +1,8 @@
 -- What a call made by a C program returns and leaves, for any kind of sheet: the number, the store, the output and the answer slice.
 -- Definitions only.
-use mathlib.Core.List.{List}
+use mathlib.Core.List.{List, [], _∷_, _++_}
 use Prim.Native.Nat.{ℕ}
-use lib.ListN.{length, set}
+use lib.ListN.{length, take, drop}
 use Rattle.base.specs.Cases.{ifLt}
 use Rattle.call_outcomes.specs.declared.Returned.{Returned}
 use Rattle.call_outcomes.specs.Returns.{returned}
@@ -15,21 +15,21 @@ pub record Handed (S : Type 0) : Type 0 where
   pub output : List ℕ
   pub answer : List ℕ
 
--- The two values, put at the front of the answer slice.
-unfoldable pub filled : Returned → List ℕ → List ℕ
-filled back answer = set (set answer 0 (back .first)) 1 (back .second)
+-- The first so many of the values, put at the front of the answer slice.
+unfoldable pub filled : ℕ → Returned → List ℕ → List ℕ
+filled values back answer = take values (back .first ∷ back .second ∷ back .third ∷ []) ++ drop values answer
 
--- The outcome of a call, handed over in an answer slice.
-unfoldable pub handedBy : {S : Type 0} → Outcome S → List ℕ → Handed S
-handedBy o answer = record {
+-- The outcome of a call that hands over so many values, in an answer slice.
+unfoldable pub handedBy : {S : Type 0} → ℕ → Outcome S → List ℕ → Handed S
+handedBy values o answer = record {
   number = returned (o .answer) .number;
   store = o .store;
   output = o .output;
-  answer = filled (returned (o .answer)) answer;
+  answer = filled values (returned (o .answer)) answer;
 }
 
--- The call, where the answer slice has room for two values; otherwise the number 255, and nothing changes.
-unfoldable pub handed : (kind : Kind) → CallFor kind → List ℕ → StoreFor kind → List ℕ → List ℕ → Handed (StoreFor kind)
-handed kind call tape store output answer =
-    ifLt (length answer) 2 (record { number = 255; store = store; output = output; answer = answer })
-    (handedBy (outcome kind call tape store output) answer)
+-- The call, which hands over so many values, where the answer slice has room for them; otherwise the number 255, and nothing changes.
+unfoldable pub handed : (kind : Kind) → ℕ → CallFor kind → List ℕ → StoreFor kind → List ℕ → List ℕ → Handed (StoreFor kind)
+handed kind values call tape store output answer =
+    ifLt (length answer) values (record { number = 255; store = store; output = output; answer = answer })
+    (handedBy values (outcome kind call tape store output) answer)

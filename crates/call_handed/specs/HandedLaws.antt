@@ -1,8 +1,9 @@
--- When a call is handed over.
-use mathlib.Core.Path.{_≡_, sym}
-use mathlib.Core.List.{List}
+-- The values in an answer slice, and when a call is handed over.
+use mathlib.Core.Path.{_≡_, refl, sym}
+use mathlib.Core.List.{List, [], _∷_}
 use Prim.Native.Nat.{ℕ, _≤_, _<_}
-use lib.ListN.{length}
+use native.Mathlib.Omega.{arith}
+use lib.ListN.{length, set}
 use Rattle.base.specs.CaseLaws.{ifLt-yes, ifLt-no}
 use Rattle.call_outcomes.specs.declared.Returned.{Returned}
 use Rattle.call_outcomes.specs.declared.Answer.{Answer}
@@ -11,18 +12,39 @@ use Rattle.call_outcomes.specs.Kind.{Kind, CallFor, StoreFor}
 use Rattle.call_outcomes.specs.Outcome.{outcome}
 use Rattle.call_handed.specs.Handed.{filled, handedBy, handed}
 
-module _ (kind : Kind) (call : CallFor kind) (tape : List ℕ) (store : StoreFor kind) (output answer : List ℕ) where
+-- ---- the values in the answer slice
+
+module _ (back : Returned) where
+  -- two values
+  pub filled-two : (answer : List ℕ) → 2 ≤ length answer → set (set answer 0 (back .first)) 1 (back .second) ≡ filled 2 back answer
+  unfolding filled
+  filled-two [] l = absurd (omega arith)
+  filled-two (x ∷ []) l = absurd (omega arith)
+  filled-two (x ∷ y ∷ rest) l = refl
+
+  -- three values
+  pub filled-three : (answer : List ℕ) → 3 ≤ length answer
+      → set (set (set answer 0 (back .first)) 1 (back .second)) 2 (back .third) ≡ filled 3 back answer
+  unfolding filled
+  filled-three [] l = absurd (omega arith)
+  filled-three (x ∷ []) l = absurd (omega arith)
+  filled-three (x ∷ y ∷ []) l = absurd (omega arith)
+  filled-three (x ∷ y ∷ z ∷ rest) l = refl
+
+-- ---- the call
+
+module _ (kind : Kind) (values : ℕ) (call : CallFor kind) (tape : List ℕ) (store : StoreFor kind) (output answer : List ℕ) where
   -- an answer slice that is too short
-  pub handed-short : length answer < 2
-      → record { number = 255; store = store; output = output; answer = answer } ≡ handed kind call tape store output answer
+  pub handed-short : length answer < values
+      → record { number = 255; store = store; output = output; answer = answer } ≡ handed kind values call tape store output answer
   unfolding handed
-  handed-short l = sym (ifLt-yes (length answer) 2 _ _ l)
+  handed-short l = sym (ifLt-yes (length answer) values _ _ l)
 
   -- an answer slice with room
-  pub handed-done : {given : Answer} {store′ : StoreFor kind} {output′ : List ℕ} {back : Returned} {r : ℕ} {answer′ : List ℕ} → 2 ≤ length answer
+  pub handed-done : {given : Answer} {store′ : StoreFor kind} {output′ : List ℕ} {back : Returned} {r : ℕ} {answer′ : List ℕ} → values ≤ length answer
       → record { answer = given; store = store′; output = output′ } ≡ outcome kind call tape store output
-      → back ≡ returned given → (r ≡ back .number) × (answer′ ≡ filled back answer)
-      → record { number = r; store = store′; output = output′; answer = answer′ } ≡ handed kind call tape store output answer
+      → back ≡ returned given → (r ≡ back .number) × (answer′ ≡ filled values back answer)
+      → record { number = r; store = store′; output = output′; answer = answer′ } ≡ handed kind values call tape store output answer
   unfolding handed handedBy
   handed-done l o b h =
-      rw (h .0, h .1, ifLt-no (length answer) 2 _ (handedBy (outcome kind call tape store output) answer) l, ← o, b)
+      rw (h .0, h .1, ifLt-no (length answer) values _ (handedBy values (outcome kind call tape store output) answer) l, ← o, b)

@@ -2,7 +2,8 @@
 use mathlib.Core.Path.{_≡_, refl, ap₂, _∙_}
 use mathlib.Core.List.{List, [], _∷_}
 use mathlib.Core.Option.{Option, some, none}
-use Prim.Native.Nat.{ℕ}
+use Prim.Native.Nat.{ℕ, _<_}
+use borrow.Author.Tests.{lt-leb}
 use lib.ListN.{length}
 use Rattle.tree_rules.specs.declared.Change.{Change}
 use Rattle.tree_rules.specs.declared.Change.the-variants.{Delete}
@@ -10,14 +11,15 @@ use Rattle.tree_rules.specs.ChangeList.{changeList}
 use Rattle.store_layout.specs.Layout.{Store}
 use Rattle.store_layout.specs.Decode.{Contents, decode}
 use Rattle.store_layout.specs.EmptyLaws.{one-empty, empty-slots, empty-counts}
+use Rattle.store_ties.specs.Ties.{placingIn}
 use Rattle.call_outcomes.specs.declared.Cause.the-variants.{NotASheet}
 use Rattle.call_outcomes.specs.declared.Answer.the-variants.{Checked, Changed, Refused}
 use Rattle.call_outcomes.specs.Kind.{SheetOf}
 use Rattle.call_outcomes.specs.KindLaws.{decoded-sheet}
-use Rattle.call_outcomes.specs.Causes.{refuse, byLengths, byFound, storeDecision, lookedAt, argumentCause, byArguments, decision}
+use Rattle.call_outcomes.specs.Causes.{firstOf, refuse, byLengths, byFound, storeDecision, lookedAt, argumentCause, byArguments, decision}
 use Rattle.call_outcomes.specs.Outcome.{refused, outcome}
 use Rattle.call_outcomes.specs.DecisionLaws.{outcome-refused}
-use Rattle.call_outcomes.specs.Plain.{RightLengths, foundBy, plainView, countOf, questionCause, replyTo, plain, delete, check, changing, plainChange, storeOf}
+use Rattle.call_outcomes.specs.Plain.{RightLengths, foundBy, plainView, placeOf, countOf, questionCause, placed, replyTo, plain, delete, place, check, changing, plainChange, storeOf}
 use Rattle.call_outcomes.specs.PlainLaws.{lengths-right, edit-list}
 use Rattle.call_outcomes.specs.Clubs.{clubs, zeros}
 use Rattle.call_outcomes.specs.ClubsLaws.{clubs-lawful}
@@ -45,6 +47,14 @@ check-other store right none-is tape output =
     go : (o : Option Contents) → decode clubs store ≡ o → byArguments (argumentCause (plain clubs) check) (byFound (foundBy (decode clubs store))) ≡ refuse NotASheet
     go none e = rw e
     go (some c) e = absurd (none-is (c .list) (decoded-sheet (plainView clubs) (clubs-lawful .view) store c (rw e)))
+
+-- ---- place
+
+-- A place of an entry is answered by the list: that of her tied group.
+pub place-sheet : (list : List ℕ) (store : Store) → ClubSheet list store → (i : ℕ) → i < length list → (tape output : List ℕ)
+    → outcome (plain clubs) (place i) tape store output .answer ≡ placed (placingIn list i)
+unfolding replyTo questionCause firstOf
+place-sheet list store w i below = answered-by (plain clubs) clubs-lawful list store w (placeOf i) (rw (lt-leb (length list) i below))
 
 -- ---- insert and delete
 

@@ -9,7 +9,7 @@ use native.Mathlib.Omega.{arith}
 use lib.ListN.{length}
 use Rattle.base.specs.BoolLaws.{tests-agree}
 use Rattle.draw_shares.specs.Program.{done}
-use Rattle.draw_shares.specs.Fraction.{_≐_, whole, unit}
+use Rattle.draw_shares.specs.Fraction.{Fraction, _≐_, whole, unit}
 use Rattle.draw_shares.specs.Rational.{inv, crosswise, ≐-trans}
 use Rattle.draw_shares.specs.Course.{Follows, Course, courses, sumShares, share}
 use Rattle.draw_shares.specs.Same.{expect}
@@ -115,6 +115,17 @@ module _ (kind : Kind) (lawful : Lawful kind) (calls : List (CallFor kind)) (sto
   refusals faces v follows call =
       let w = course-sheet faces v follows in
       rw (w .laid) (sheet-refusal kind lawful end (w .shape) (w .is-list) (w .is-shape) call)
+
+-- The share of a sheet goes by its shape and the number of its entries alone, whatever these are.
+pub shape-shares : (kind : Kind) (lawful : Lawful kind) (calls calls′ : List (CallFor kind)) (store store′ : StoreFor kind)
+    → kind .view .rightLengths store ≡ true → kind .view .rightLengths store′ ≡ true
+    → length (listAtEnd kind calls) ≡ length (listAtEnd kind calls′) → (s : Shape) → IsShape (length (listAtEnd kind calls)) s
+    → share (kind .view .equal (kind .view .lay (listAtEnd kind calls) s)) (history kind calls store)
+    ≐ share (kind .view .equal (kind .view .lay (listAtEnd kind calls′) s)) (history kind calls′ store′)
+shape-shares kind lawful calls calls′ store store′ right right′ number s shape =
+    let of : List (CallFor kind) → StoreFor kind → Fraction = λ calls store. share (kind .view .equal (kind .view .lay (listAtEnd kind calls) s)) (history kind calls store) in
+    ≐-trans (of calls store) (unit (shapeProduct (length (listAtEnd kind calls)) s)) (of calls′ store′) (sheet-share kind lawful calls store right s shape)
+    (sym (rw number (sheet-share kind lawful calls′ store′ right′ s (rw (← number) shape))))
 
 -- Whatever words the tapes hold, if no call returns 7, the last store is a sheet of the list at the end.
 pub last-sheet : (kind : Kind) (lawful : Lawful kind) (sent : List (SentTo kind)) (store : StoreFor kind) → kind .view .rightLengths store ≡ true

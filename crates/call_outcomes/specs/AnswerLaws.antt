@@ -35,7 +35,7 @@ pub number-fits : (a : Answer) → returned a .number < 2 ^ 8
 number-fits answer.Cleared = omega arith
 number-fits (answer.Changed n words) = omega arith
 number-fits (answer.Entries count) = omega arith
-number-fits (answer.Placed p points) = omega arith
+number-fits (answer.Placed place sum boats) = omega arith
 number-fits (answer.Checked n) = omega arith
 number-fits (answer.Present rank) = omega arith
 number-fits (answer.Absent rank) = omega arith

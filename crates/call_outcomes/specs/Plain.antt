@@ -13,6 +13,8 @@ use Rattle.tree_rules.specs.Tree.{Shape}
 use Rattle.store_layout.specs.declared.Capacity.{Capacity}
 use Rattle.store_layout.specs.Layout.{Store, layOut}
 use Rattle.store_layout.specs.Decode.{Contents, decode}
+use Rattle.store_ties.specs.declared.Placing.{Placing}
+use Rattle.store_ties.specs.Ties.{placingIn}
 use Rattle.call_outcomes.specs.declared.Cause.{Cause}
 use Rattle.call_outcomes.specs.declared.Cause.the-variants.{NotASheet, EntryZero, Rank, Full, OutputShort}
 use Rattle.call_outcomes.specs.declared.Answer.{Answer}
@@ -94,10 +96,13 @@ questionCause (readRanks first last room) N =
 questionCause (placeOf i) N = firstOf (leb N i) Rank none
 questionCause countOf N = none
 
--- Rank i has place i + 1 and as many points.
+-- A place is that of the tied group.
+abbrev pub placed : Placing → Answer
+placed p = Placed (p .place) (p .sum) (p .boats)
+
 unfoldable pub replyTo : Question → List ℕ → Answer
 replyTo (readRanks first last room) list = Entries (last - first + 1)
-replyTo (placeOf i) list = Placed (i + 1) (i + 1)
+replyTo (placeOf i) list = placed (placingIn list i)
 replyTo countOf list = Checked (length list)
 
 unfoldable pub writtenFor : Question → List ℕ → List ℕ

@@ -1,4 +1,4 @@
--- The numbers and values that an answer returns (document 01, "Causes and numbers"; document 02, F-1). Definitions only.
+-- The numbers and values that an answer returns (document 01, "Causes and numbers"; document 02, F-1 and F-3). Definitions only.
 use Prim.Native.Nat.{ℕ}
 use Rattle.call_outcomes.specs.declared.Cause.{Cause}
 use Rattle.call_outcomes.specs.declared.Cause.the-variants as cause
@@ -20,14 +20,14 @@ causeNumber cause.TapeEnded = 7
 causeNumber cause.NoFrame = 8
 causeNumber cause.TapeFull = 9
 
--- What is returned: the number of the cause, or 0 where the call is accepted, and two values, 0 where there are fewer.
+-- What is returned: the number of the cause, or 0 where the call is accepted, and three values, 0 where there are fewer.
 abbrev pub returned : Answer → Returned
-returned answer.Cleared = record { number = 0; first = 0; second = 0 }
-returned (answer.Changed n words) = record { number = 0; first = n; second = words }
-returned (answer.Entries count) = record { number = 0; first = count; second = 0 }
-returned (answer.Placed p points) = record { number = 0; first = p; second = points }
-returned (answer.Checked n) = record { number = 0; first = n; second = 0 }
-returned (answer.Present rank) = record { number = 0; first = 1; second = rank }
-returned (answer.Absent rank) = record { number = 0; first = 0; second = rank }
-returned (answer.Converted m) = record { number = 0; first = m; second = 0 }
-returned (answer.Refused cause) = record { number = causeNumber cause; first = 0; second = 0 }
+returned answer.Cleared = record { number = 0; first = 0; second = 0; third = 0 }
+returned (answer.Changed n words) = record { number = 0; first = n; second = words; third = 0 }
+returned (answer.Entries count) = record { number = 0; first = count; second = 0; third = 0 }
+returned (answer.Placed place sum boats) = record { number = 0; first = place; second = sum; third = boats }
+returned (answer.Checked n) = record { number = 0; first = n; second = 0; third = 0 }
+returned (answer.Present rank) = record { number = 0; first = 1; second = rank; third = 0 }
+returned (answer.Absent rank) = record { number = 0; first = 0; second = rank; third = 0 }
+returned (answer.Converted m) = record { number = 0; first = m; second = 0; third = 0 }
+returned (answer.Refused cause) = record { number = causeNumber cause; first = 0; second = 0; third = 0 }

@@ -20,13 +20,30 @@ pub enum Cause {
 // What a call returns.
 pub enum Answer {
     Cleared,
-    Changed { n: usize, words: usize },
-    Entries { count: usize },
-    Placed { place: usize, points: usize },
-    Checked { n: usize },
-    Present { rank: usize },
-    Absent { rank: usize },
-    Converted { m: usize },
+    Changed {
+        n: usize,
+        words: usize,
+    },
+    Entries {
+        count: usize,
+    },
+    Placed {
+        place: usize,
+        sum: usize,
+        boats: usize,
+    },
+    Checked {
+        n: usize,
+    },
+    Present {
+        rank: usize,
+    },
+    Absent {
+        rank: usize,
+    },
+    Converted {
+        m: usize,
+    },
     Refused(Cause),
 }
 
@@ -51,21 +68,23 @@ impl Cause {
     }
 }
 
-// What is returned: the number of the cause, or 0, and two values.
+// What is returned: the number of the cause, or 0, and three values.
 pub struct Returned {
     pub number: usize,
     pub first: usize,
     pub second: usize,
+    pub third: usize,
 }
 
 // What an accepted call returns with these values.
-fn accepted(first: usize, second: usize) -> Returned
-    ensures { λ r. ⌜ r ≡ record { number = 0; first = first; second = second } ⌝ }
+fn accepted(first: usize, second: usize, third: usize) -> Returned
+    ensures { λ r. ⌜ r ≡ record { number = 0; first = first; second = second; third = third } ⌝ }
 {
     Returned {
         number: 0,
         first: first,
         second: second,
+        third: third,
     }
 }
 
@@ -75,20 +94,21 @@ impl Answer {
         ensures { λ r. ⌜ r ≡ returns.returned self ⌝ }
     {
         match self {
-            Answer::Cleared => accepted(0, 0),
-            Answer::Changed { n, words } => accepted(n, words),
-            Answer::Entries { count } => accepted(count, 0),
-            Answer::Placed { place, points } => accepted(place, points),
-            Answer::Checked { n } => accepted(n, 0),
-            Answer::Present { rank } => accepted(1, rank),
-            Answer::Absent { rank } => accepted(0, rank),
-            Answer::Converted { m } => accepted(m, 0),
+            Answer::Cleared => accepted(0, 0, 0),
+            Answer::Changed { n, words } => accepted(n, words, 0),
+            Answer::Entries { count } => accepted(count, 0, 0),
+            Answer::Placed { place, sum, boats } => accepted(place, sum, boats),
+            Answer::Checked { n } => accepted(n, 0, 0),
+            Answer::Present { rank } => accepted(1, rank, 0),
+            Answer::Absent { rank } => accepted(0, rank, 0),
+            Answer::Converted { m } => accepted(m, 0, 0),
             Answer::Refused(cause) => {
                 let number = cause.number();
                 Returned {
                     number: number,
                     first: 0,
                     second: 0,
+                    third: 0,
                 }
             }
         }

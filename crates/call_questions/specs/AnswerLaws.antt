@@ -1,10 +1,10 @@
--- The answers to a place and to a check, and refusals.
+-- The answer to a check, and refusals.
 use mathlib.Core.Path.{_≡_, ap}
 use mathlib.Core.List.{List, []}
-use Prim.Native.Nat.{ℕ, _+_}
+use Prim.Native.Nat.{ℕ}
 use Rattle.call_outcomes.specs.declared.Cause.{Cause}
-use Rattle.call_outcomes.specs.declared.Answer.the-variants.{Placed, Checked, Refused}
-use Rattle.call_outcomes.specs.Plain.{Question, placeOf, countOf, questionCause, replyTo}
+use Rattle.call_outcomes.specs.declared.Answer.the-variants.{Checked, Refused}
+use Rattle.call_outcomes.specs.Plain.{Question, countOf, questionCause, replyTo}
 use Rattle.call_open.specs.declared.Opened.{Opened}
 use Rattle.call_open.specs.declared.Opened.the-variants as opened
 use Rattle.call_open.specs.Opening.{admitted}
@@ -19,11 +19,6 @@ module _ (q : Question) (found : Opened) {cause : Cause} (is : admitted (questio
   pub answers-refused : Answers q found (Refused cause)
   unfolding Answers
   answers-refused list w = ap (λ (r : Reply). r .answer) (asked-refused list [])
-
-pub place-answer : (i : ℕ) (found : Opened) {n m : ℕ} → admitted (questionCause (placeOf i)) found ≡ opened.Sheet n m
-    → Answers (placeOf i) found (Placed (i + 1) (i + 1))
-unfolding Answers asked askedBy replyTo
-place-answer i found is list w = rw is
 
 pub check-answer : (found : Opened) {n m : ℕ} → found ≡ opened.Sheet n m → Answers countOf found (Checked n)
 unfolding Answers asked askedBy replyTo

@@ -1,7 +1,7 @@
 -- What a question comes to, by what its store was found to hold. Definitions only.
 use mathlib.Core.List.{List, [], _++_}
 use mathlib.Core.Path.{_≡_}
-use Prim.Native.Nat.{ℕ, _^_, _<_}
+use Prim.Native.Nat.{ℕ}
 use lib.ListN.{length, drop}
 use Rattle.store_layout.specs.declared.Capacity.{Capacity}
 use Rattle.store_layout.specs.Room.{CapacityReady}
@@ -32,10 +32,6 @@ asked q found list output = askedBy q list output (admitted (questionCause q) fo
 -- A list of as many entries as were found.
 abbrev pub HasNumber : Opened → List ℕ → Type 0
 HasNumber found list = (n m : ℕ) → found ≡ opened.Sheet n m → length list ≡ n
-
--- What was found has so few entries that their number can be raised.
-abbrev pub Few : Opened → Type 0
-Few found = (n m : ℕ) → found ≡ opened.Sheet n m → n < 2 ^ 30
 
 -- The answer to a question that goes by the number of entries alone.
 unfoldable pub Answers : Question → Opened → Answer → Type 0

@@ -2,4 +2,6 @@
 pub mod Asked
 pub mod AskedLaws
 pub mod AnswerLaws
+pub mod StartLaws
 pub mod ReadLaws
+pub mod PlaceLaws

@@ -1,9 +1,10 @@
 // Questions about a sheet, answered by what its store was found to hold.
 ghost use mathlib.Core.Path.{_≡_};
+ghost use mathlib.Core.List.{[]};
 ghost use lib.ListN.{length};
 ghost use Rattle.store_layout.specs.Leaf.{nonzero};
 ghost use Rattle.call_outcomes.specs.Plain.{readRanks, placeOf, countOf};
-ghost use Rattle.call_questions.specs.Asked.{asked, Few, Answers, Readable};
+ghost use Rattle.call_questions.specs.Asked.{asked, Answers, Readable};
 use call_open::Opened;
 use call_outcomes::Answer;
 use tree_sizes::Size;
@@ -32,17 +33,20 @@ pub fn read(
     }
 }
 
-// The place of the entry at the rank, and its points.
-pub fn place(opened: Opened, rank: usize) -> Answer
-    requires { ⌜ Few opened ⌝ }
-    ensures { λ r. ⌜ Answers (placeOf rank) opened r ⌝ }
+// The place of the entry at the rank: that of her tied group, the sum of its places and the number of its boats.
+pub fn place(opened: Opened, slots: &[u64], work: &[u32], rank: usize) -> Answer
+    requires { ⌜ Readable opened (now slots) (now work) ⌝ }
+    ensures { λ r. ⌜ record { answer = r; output = [] } ≡ asked (placeOf rank) opened (nonzero (now (slots .entry))) [] ⌝ }
 {
     match call_open::admit_rank(opened, rank) {
-        Opened::Sheet { n: _, m: _ } => {
-            let number = rank + 1;
+        Opened::Sheet { n, m } => {
+            let start = store_rank::start_of(Size { m: m }, work, rank);
+            let at = store_slices::skip_entries(slots, start.slot, start.rank + 1);
+            let placing = store_ties::placing_at(slots, at, rank, n);
             Answer::Placed {
-                place: number,
-                points: number,
+                place: placing.place,
+                sum: placing.sum,
+                boats: placing.boats,
             }
         }
         Opened::Refused(cause) => Answer::Refused(cause),

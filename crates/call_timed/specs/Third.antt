@@ -14,7 +14,7 @@ unfoldable pub thirdAfter : Answer → Store → List ℕ → List ℕ
 thirdAfter (answer.Changed n words) store balance = balanceIn (getD (store .counts) 0 0) (length balance) (store .slots)
 thirdAfter answer.Cleared store balance = balance
 thirdAfter (answer.Entries count) store balance = balance
-thirdAfter (answer.Placed p points) store balance = balance
+thirdAfter (answer.Placed place sum boats) store balance = balance
 thirdAfter (answer.Checked n) store balance = balance
 thirdAfter (answer.Present rank) store balance = balance
 thirdAfter (answer.Absent rank) store balance = balance

@@ -74,7 +74,7 @@ unfoldable pub readLine : Outcome Store → Store → Reply
 readLine o store = readReply (returned (o .answer)) (entryCount store) (o .output)
 
 unfoldable pub placeReply : Returned → ℕ → Reply
-placeReply back n = ifEq (back .number) 0 (placed n (back .first) (back .second)) (brief 135 (back .number) n)
+placeReply back n = ifEq (back .number) 0 (placed n (back .first) (back .second) (back .third)) (brief 135 (back .number) n)
 
 unfoldable pub placeLine : Outcome Store → Store → Reply
 placeLine o store = placeReply (returned (o .answer)) (entryCount store)

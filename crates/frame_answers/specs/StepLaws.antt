@@ -47,7 +47,8 @@ module _ {o : Outcome Store} {given : Answer} {slots counts output : List ℕ} {
   unfolding placeLine placeReply entryCount
   place-refused ne = rw (← done, ← is) (sym (ifEq-no (back .number) 0 _ _ ne))
 
-  pub place-accepted : back .number ≡ 0 → placed (getD counts 1 0) (back .first) (back .second) ≡ placeLine o (storeOf slots counts)
+  pub place-accepted : back .number ≡ 0
+      → placed (getD counts 1 0) (back .first) (back .second) (back .third) ≡ placeLine o (storeOf slots counts)
   unfolding placeLine placeReply entryCount
   place-accepted e = rw (← done, ← is) (sym (ifEq-yes (back .number) 0 _ _ e))
 

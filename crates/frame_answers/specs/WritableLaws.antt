@@ -19,6 +19,10 @@ use Rattle.store_layout.specs.Decode.{numbered, listOf}
 use Rattle.store_layout.specs.NumberedLaws.{every-numbered}
 use Rattle.store_layout.specs.RoomLaws.{counts-enough}
 use Rattle.store_layout.specs.SheetLaws.{decoded, decode-sound, size-known}
+use Rattle.store_ties.specs.Groups.{groupFirst, groupEnd, placing, placingOf}
+use Rattle.store_ties.specs.Ties.{tiedIn}
+use Rattle.store_ties.specs.SumLaws.{sum-most}
+use Rattle.store_ties.specs.GroupLaws.{first-most, end-above, end-most}
 use Rattle.call_outcomes.specs.Returns.{returned}
 use Rattle.call_outcomes.specs.Kind.{clear}
 use Rattle.call_outcomes.specs.Outcome.{outcome}
@@ -110,17 +114,26 @@ module _ (store : Store) (f : StoreFits store) where
       rw (question-outcome (plain clubs) q [] store (replicate room 0) (a .0) (a .1))
       (every-take Fits64 (last - first + 1) (taken ++ rest) (every-append Fits64 taken rest taken-fits rest-fits))
 
-  -- a place is no more than the entries that there is room for, and so are its points
+  -- a place is no more than the entries that there is room for, and so is every place that its group shares
   place-fits : (rank : ℕ) → returned (outcome (plain clubs) (place rank) [] store [] .answer) .number ≡ 0
       → Fits16 (returned (outcome (plain clubs) (place rank) [] store [] .answer) .first)
-      × Fits16 (returned (outcome (plain clubs) (place rank) [] store [] .answer) .second)
-  unfolding replyTo
+      × (returned (outcome (plain clubs) (place rank) [] store [] .answer) .second < 2 ^ 32)
+      × Fits16 (returned (outcome (plain clubs) (place rank) [] store [] .answer) .third)
+  unfolding replyTo placingOf placing
   place-fits rank zero-is =
       let q = placeOf rank in
       let a = number-accepted (plain clubs) (place rank) [] store [] zero-is in
       let below = place-within rank _ (question-free clubs store (a .0) q (a .1)) in
-      let few : Fits16 (rank + 1) = omega (arith, below, entries-most clubs store (a .0) q (a .1)) in
-      rw (question-outcome (plain clubs) q [] store [] (a .0) (a .1)) (few, few)
+      let list = a .0 .list in
+      let first = groupFirst (tiedIn list) rank in
+      let boats = groupEnd (tiedIn list) (length list) rank - first in
+      let room = entries-most clubs store (a .0) q (a .1) in
+      let low = first-most (tiedIn list) rank in
+      let most : first + boats ≤ clubs .entries =
+      omega (arith, room, low, end-above (tiedIn list) (length list) rank, end-most (tiedIn list) (length list) rank below) in
+      let sum = sum-most (suc first) boats (clubs .entries) (omega (arith, most)) in
+      rw (question-outcome (plain clubs) q [] store [] (a .0) (a .1))
+      (omega (arith, low, below, room), omega (arith, sum, most), omega (arith, most))
 
   -- the size parameter of a sheet
   size-most : returned (outcome (plain clubs) check [] store [] .answer) .number ≡ 0 → getD (store .counts) 0 0 ≤ 2 * clubs .entries - 1
@@ -187,7 +200,7 @@ replies-writable Clear line k f g =
 replies-writable (Place rank) line k f g =
     let o = outcome (plain clubs) (place rank) [] (k .store) [] in (
       by-eq Writable (returned (o .answer) .number) 0 _ _
-          (λ yes. let p = place-fits (k .store) f rank yes in (count-fits (k .store) f, p .0, p .1))
+          (λ yes. let p = place-fits (k .store) f rank yes in (count-fits (k .store) f, p .0, p .1, p .2))
           (brief-refused 135 _ _ (omega arith) (number-fits (o .answer)) (count-fits (k .store) f) (λ e. omega arith) (λ e. omega arith)),
       tt,
     )

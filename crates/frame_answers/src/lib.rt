@@ -68,7 +68,7 @@ pub fn read_line(
 
 // A place.
 pub fn place_line(slots: &[u64], counts: &[u16], rank: usize, output: &mut [u8]) -> usize
-    requires { ⌜ 17 ≤ length (now output) ⌝ }
+    requires { ⌜ 25 ≤ length (now output) ⌝ }
     ensures { λ r. ⌜ Wrote (now (output .entry)) 0
         (lineOf (placeLine (outcome (plain clubs) (call.place rank) [] (storeOf (now (slots .entry)) (now (counts .entry))) [])
         (storeOf (now (slots .entry)) (now (counts .entry)))))
@@ -80,7 +80,14 @@ pub fn place_line(slots: &[u64], counts: &[u16], rank: usize, output: &mut [u8])
         return answer(output, 135, number, counts);
     }
     let n = entry_count(counts);
-    frame_replies::put_place(output, 0, n, back.first as u64, back.second as u64)
+    frame_replies::put_place(
+        output,
+        0,
+        n,
+        back.first as u64,
+        back.second as u64,
+        back.third as u64,
+    )
 }
 
 // A clear.

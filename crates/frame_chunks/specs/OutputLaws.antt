@@ -39,19 +39,22 @@ unfolding entryDigits Every
 entries-not-lf [] = tt
 entries-not-lf (e ∷ list) = every-append NotLf (digits 16 e) (entryDigits list) (digits-not-lf 16 e) (entries-not-lf list)
 
+numbers-not-lf : (v a w b c : ℕ) → Every NotLf (digits v a ++ (digits w b ++ digits 4 c))
+numbers-not-lf v a w b c =
+    every-append NotLf (digits v a) (digits w b ++ digits 4 c) (digits-not-lf v a)
+    (every-append NotLf (digits w b) (digits 4 c) (digits-not-lf w b) (digits-not-lf 4 c))
+
 header-not-lf : (w kind a b : ℕ) → Every NotLf (header w kind a b)
 unfolding header
-header-not-lf w kind a b =
-    every-append NotLf (digits 2 kind) (digits w a ++ digits 4 b) (digits-not-lf 2 kind)
-    (every-append NotLf (digits w a) (digits 4 b) (digits-not-lf w a) (digits-not-lf 4 b))
+header-not-lf w kind a b = numbers-not-lf 2 kind w a b
 
 line-not-lf : (reply : Reply) → Every NotLf (encode reply)
 unfolding encode
 line-not-lf (brief kind number n) = header-not-lf 2 kind number n
 line-not-lf (entries n list) = every-append NotLf (header 2 131 0 n) (entryDigits list) (header-not-lf 2 131 0 n) (entries-not-lf list)
-line-not-lf (placed n place points) =
-    every-append NotLf (header 2 135 0 n) (digits 4 place ++ digits 4 points) (header-not-lf 2 135 0 n)
-    (every-append NotLf (digits 4 place) (digits 4 points) (digits-not-lf 4 place) (digits-not-lf 4 points))
+line-not-lf (placed n place sum boats) =
+    every-append NotLf (header 2 135 0 n) (digits 4 place ++ (digits 8 sum ++ digits 4 boats)) (header-not-lf 2 135 0 n)
+    (numbers-not-lf 4 place 8 sum boats)
 line-not-lf (sheet m n) = header-not-lf 4 144 m n
 line-not-lf (leaf number count slots) =
     every-append NotLf (header 4 145 number count) (entryDigits slots) (header-not-lf 4 145 number count) (entries-not-lf slots)

@@ -24,11 +24,13 @@ length-entries [] = refl
 length-entries (e ∷ list) =
     length-append (digits 16 e) (entryDigits list) ∙ omega (arith, length-digits 16 e, length-entries list)
 
+pub length-numbers : (v a w b c : ℕ) → length (digits v a ++ (digits w b ++ digits 4 c)) ≡ v + (w + 4)
+length-numbers v a w b c =
+    rw (length-append (digits v a) (digits w b ++ digits 4 c), length-append (digits w b) (digits 4 c), length-digits v a, length-digits w b, length-digits 4 c)
+
 pub length-header : (w kind a b : ℕ) → length (header w kind a b) ≡ 6 + w
 unfolding header
-length-header w kind a b =
-    rw (length-append (digits 2 kind) (digits w a ++ digits 4 b), length-append (digits w a) (digits 4 b), length-digits 2 kind, length-digits w a, length-digits 4 b)
-    (omega arith)
+length-header w kind a b = length-numbers 2 kind w a b ∙ omega arith
 
 -- The lines whose length is known beforehand.
 pub length-brief : (kind number n : ℕ) → length (lineOf (brief kind number n)) ≡ 9

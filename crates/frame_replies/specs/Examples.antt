@@ -1,4 +1,4 @@
--- Answer lines and frames as bytes: those of document 01's example, a refusal, an accepted read and an accepted place.
+-- Answer lines and frames as bytes: those of document 01's example, a refusal, an accepted read and accepted places.
 use mathlib.Core.Path.{_≡_, refl}
 use mathlib.Core.List.{List, [], _∷_, _++_}
 use Prim.Native.Nat.{ℕ}
@@ -7,7 +7,7 @@ use Rattle.base.specs.Cases.{ifEq, ifLt}
 use Rattle.frame_lines.specs.declared.Frame.the-variants.{Insert, Tape}
 use Rattle.frame_lines.specs.Frame.{hexValue, field}
 use Rattle.frame_replies.specs.Reply.{hexDigit, digits, entryDigits, header, brief, entries, placed, sheet, leaf, encode, lineOf}
-use Rattle.frame_replies.specs.ReadBack.{entriesFrom, leafOf, replyFor, replyOf, wordDigits, operands, frameLine}
+use Rattle.frame_replies.specs.ReadBack.{entriesFrom, placedOf, leafOf, acceptedOf, replyFor, replyOf, wordDigits, operands, frameLine}
 
 -- 81000001
 inserted : encode (brief 129 0 1) ≡ 56 ∷ 49 ∷ 48 ∷ 48 ∷ 48 ∷ 48 ∷ 48 ∷ 49 ∷ []
@@ -46,10 +46,22 @@ one-entry : encode (entries 2 (11 ∷ [])) ≡ (56 ∷ 51 ∷ replicate 5 48) ++
 unfolding encode header entryDigits digits hexDigit ifLt
 one-entry = refl
 
--- 8700000200020002: place 2, and 2 points
-place-two : encode (placed 2 2 2) ≡ 56 ∷ 55 ∷ 48 ∷ 48 ∷ 48 ∷ 48 ∷ 48 ∷ 50 ∷ 48 ∷ 48 ∷ 48 ∷ 50 ∷ 48 ∷ 48 ∷ 48 ∷ 50 ∷ []
+-- 870000020002000000020001: place 2, alone
+place-two : encode (placed 2 2 2 1) ≡ (56 ∷ 55 ∷ replicate 5 48) ++ ((50 ∷ 48 ∷ 48 ∷ 48 ∷ 50 ∷ replicate 7 48) ++ (50 ∷ 48 ∷ 48 ∷ 48 ∷ 49 ∷ []))
 unfolding encode header digits hexDigit ifLt
 place-two = refl
+
+-- 870004000001000802000400: all 1,024 boats crossed together, and share the places 1 to 1,024
+dead-heat-bytes : List ℕ
+dead-heat-bytes = (56 ∷ 55 ∷ 48 ∷ 48 ∷ 48 ∷ 52 ∷ replicate 5 48) ++ ((49 ∷ 48 ∷ 48 ∷ 48 ∷ 56 ∷ 48 ∷ 50 ∷ replicate 3 48) ++ (52 ∷ 48 ∷ 48 ∷ []))
+
+dead-heat : encode (placed 1024 1 524800 1024) ≡ dead-heat-bytes
+unfolding dead-heat-bytes encode header digits hexDigit ifLt
+dead-heat = refl
+
+dead-heat-read : replyOf dead-heat-bytes ≡ placed 1024 1 524800 1024
+unfolding dead-heat-bytes replyOf replyFor acceptedOf placedOf field hexValue ifEq ifLt
+dead-heat-read = refl
 
 -- 010001000000000000000B
 insert-line : frameLine (Insert 1 11) [] ≡ (48 ∷ 49 ∷ 48 ∷ 48 ∷ 48 ∷ 49 ∷ replicate 15 48) ++ (66 ∷ [])

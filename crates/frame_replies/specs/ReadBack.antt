@@ -1,5 +1,5 @@
--- The reverse of the program: an answer line read as the reply that it writes, and a frame written as a line (document 01, "Frames").
--- Definitions only.
+-- The reverse of the program: an answer line read as the reply that it writes, and a frame written as a line (document 01, "Frames";
+-- document 02, F-3). Definitions only.
 use mathlib.Core.Path.{_≡_}
 use mathlib.Core.Logic.{_≢_}
 use mathlib.Core.List.{List, [], _∷_, _++_}
@@ -27,9 +27,9 @@ briefOf line = brief (field line 0 2) (field line 2 2) (field line 4 4)
 unfoldable pub entriesOf : List ℕ → Reply
 entriesOf line = entries (field line 4 4) (entriesFrom line 8 ((length line - 8) / 16))
 
--- N, the place and the points.
+-- N, the place, the sum in 4 bytes, and the number of boats.
 unfoldable pub placedOf : List ℕ → Reply
-placedOf line = placed (field line 4 4) (field line 8 4) (field line 12 4)
+placedOf line = placed (field line 4 4) (field line 8 4) (field line 12 8) (field line 20 4)
 
 -- M and N.
 unfoldable pub sheetOf : List ℕ → Reply
@@ -39,7 +39,7 @@ sheetOf line = sheet (field line 2 4) (field line 6 4)
 unfoldable pub leafOf : List ℕ → Reply
 leafOf line = leaf (field line 2 4) (field line 6 4) (entriesFrom line 10 ((length line - 10) / 16))
 
--- The answer to an accepted call: 83 hexadecimal has the entries, 87 the place and the points, every other answer nothing more.
+-- The answer to an accepted call: 83 hexadecimal has the entries, 87 the place, the sum and the boats, every other answer nothing more.
 unfoldable pub acceptedOf : ℕ → List ℕ → Reply
 acceptedOf first line = ifEq first 131 (entriesOf line) (ifEq first 135 (placedOf line) (briefOf line))
 
@@ -74,7 +74,7 @@ pub record BriefFits (first cause n : ℕ) : Type 0 where
 unfoldable pub Writable : Reply → Type 0
 Writable (brief first cause n) = BriefFits first cause n
 Writable (entries n list) = (n < 2 ^ 16) × EntriesFit list
-Writable (placed n place points) = (n < 2 ^ 16) × (place < 2 ^ 16) × (points < 2 ^ 16)
+Writable (placed n place sum boats) = (n < 2 ^ 16) × (place < 2 ^ 16) × (sum < 2 ^ 32) × (boats < 2 ^ 16)
 Writable (sheet m n) = (m < 2 ^ 16) × (n < 2 ^ 16)
 Writable (leaf number count slots) = (number < 2 ^ 16) × (count < 2 ^ 16) × EntriesFit slots
 

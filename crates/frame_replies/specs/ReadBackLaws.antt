@@ -102,19 +102,24 @@ entries-line n list fits all =
     ap₂ (λ (f c : ℕ). replyFor f c (header 2 131 0 n ++ rest)) (first-back 131 2 0 4 n rest (omega arith)) (second-back 131 2 0 4 n rest (omega arith))
     ∙ ap₂ entries (third-back 131 2 0 4 n rest fits) (all-back list (header 2 131 0 n) 8 (length-header 2 131 0 n) all)
 
-placed-line : (n place points : ℕ) → n < 2 ^ 16 → place < 2 ^ 16 → points < 2 ^ 16
-    → replyOf (header 2 135 0 n ++ (digits 4 place ++ digits 4 points)) ≡ placed n place points
+placed-line : (n place sum boats : ℕ) → n < 2 ^ 16 → place < 2 ^ 16 → sum < 2 ^ 32 → boats < 2 ^ 16
+    → replyOf (header 2 135 0 n ++ (digits 4 place ++ (digits 8 sum ++ digits 4 boats))) ≡ placed n place sum boats
 unfolding replyOf replyFor acceptedOf placedOf header front ifEq
-placed-line n place points fits place-fits points-fits =
-    let rest = digits 4 place ++ digits 4 points in
+placed-line n place sum boats fits place-fits sum-fits boats-fits =
+    let last = digits 8 sum ++ digits 4 boats in
+    let rest = digits 4 place ++ last in
     let line = header 2 135 0 n ++ rest in
+    let behind : (i c : ℕ) → field line (8 + i) c ≡ field rest i c =
+    λ i c. field-behind (header 2 135 0 n) rest 8 i c (length-header 2 135 0 n) in
     let n-back : field line 4 4 ≡ n = third-back 135 2 0 4 n rest fits in
-    let place-back : field line 8 4 ≡ place =
-    field-digits (header 2 135 0 n) (digits 4 points) 8 4 place (length-header 2 135 0 n) place-fits in
-    let points-back : field line 12 4 ≡ points =
-    field-behind (header 2 135 0 n) rest 8 4 4 (length-header 2 135 0 n) ∙ field-last (digits 4 place) 4 4 points (length-digits 4 place) points-fits in
+    let place-back : field line 8 4 ≡ place = behind 0 4 ∙ field-first last 4 place place-fits in
+    let sum-back : field line 12 8 ≡ sum = behind 4 8 ∙ field-digits (digits 4 place) (digits 4 boats) 4 8 sum (length-digits 4 place) sum-fits in
+    let boats-back : field line 20 4 ≡ boats =
+    behind 12 4
+    ∙ field-behind (digits 4 place) last 4 8 4 (length-digits 4 place)
+    ∙ field-last (digits 8 sum) 8 4 boats (length-digits 8 sum) boats-fits in
     ap₂ (λ (f c : ℕ). replyFor f c line) (first-back 135 2 0 4 n rest (omega arith)) (second-back 135 2 0 4 n rest (omega arith))
-    ∙ rw (n-back, place-back, points-back)
+    ∙ rw (n-back, place-back, sum-back, boats-back)
 
 sheet-line : (m n : ℕ) → m < 2 ^ 16 → n < 2 ^ 16 → replyOf (header 4 144 m n) ≡ sheet m n
 unfolding replyOf replyFor sheetOf header front ifEq
@@ -139,7 +144,7 @@ pub reply-back : (reply : Reply) → Writable reply → replyOf (encode reply) �
 unfolding encode Writable
 reply-back (brief first cause n) w = brief-back first cause n w
 reply-back (entries n list) w = entries-line n list (w .0) (w .1)
-reply-back (placed n place points) w = placed-line n place points (w .0) (w .1) (w .2)
+reply-back (placed n place sum boats) w = placed-line n place sum boats (w .0) (w .1) (w .2) (w .3)
 reply-back (sheet m n) w = sheet-line m n (w .0) (w .1)
 reply-back (leaf number count slots) w = leaf-line number count slots (w .0) (w .1) (w .2)
 

@@ -1,4 +1,5 @@
--- The lines that the program answers (document 01, "Frames"), as upper-case hexadecimal pairs, high byte first. Definitions only.
+-- The lines that the program answers (document 01, "Frames"; document 02, F-3), as upper-case hexadecimal pairs, high byte first.
+-- Definitions only.
 use mathlib.Core.List.{List, [], _∷_, _++_}
 use Prim.Native.Nat.{ℕ, zero, suc, _+_, _/_, _%_}
 use Rattle.base.specs.Cases.{ifLt}
@@ -18,11 +19,12 @@ entryDigits [] = []
 entryDigits (e ∷ entries) = digits 16 e ++ entryDigits entries
 
 -- A line of the program. `brief` is an answer of its first byte, the number of the cause, or 0, and N. An accepted read has the entries
--- after that, an accepted place the place and the points. `sheet` and `leaf` are the lines 90 and 91 of a print.
+-- after that, an accepted place the place, the sum of the places that the boats of its tied group share, and the number of these boats.
+-- `sheet` and `leaf` are the lines 90 and 91 of a print.
 pub data Reply : Type 0 where
   brief : (kind number n : ℕ) → Reply
   entries : (n : ℕ) → List ℕ → Reply
-  placed : (n place points : ℕ) → Reply
+  placed : (n place sum boats : ℕ) → Reply
   sheet : (m n : ℕ) → Reply
   leaf : (number count : ℕ) → List ℕ → Reply
 
@@ -35,7 +37,7 @@ header w kind a b = digits 2 kind ++ (digits w a ++ digits 4 b)
 unfoldable pub encode : Reply → List ℕ
 encode (brief kind number n) = header 2 kind number n
 encode (entries n list) = header 2 131 0 n ++ entryDigits list
-encode (placed n place points) = header 2 135 0 n ++ (digits 4 place ++ digits 4 points)
+encode (placed n place sum boats) = header 2 135 0 n ++ (digits 4 place ++ (digits 8 sum ++ digits 4 boats))
 encode (sheet m n) = header 4 144 m n
 encode (leaf number count slots) = header 4 145 number count ++ entryDigits slots
 

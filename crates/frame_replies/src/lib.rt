@@ -1,6 +1,6 @@
 // The lines that the program answers, written into an output slice from a place on. Each function gives the place behind what it wrote.
 ghost use mathlib.Core.Path.{_≡_};
-ghost use mathlib.Core.List.{[], _∷_};
+ghost use mathlib.Core.List.{[], _∷_, _++_};
 ghost use Prim.Native.Nat.{_+_, _*_, _<_, _≤_};
 ghost use lib.ListN.{length};
 ghost use Rattle.frame_replies.specs.Reply.{hexDigit, digits, entryDigits, header, lineOf, brief, entries, placed, sheet, leaf};
@@ -55,14 +55,22 @@ fn put_entries(output: &mut [u8], at: usize, list: &[u64]) -> usize
     next
 }
 
+// Three numbers: of v digits, of w digits and of 2 bytes.
+fn put_numbers(output: &mut [u8], at: usize, v: usize, a: u64, w: usize, b: u64, c: u64) -> usize
+    requires { ⌜ at + (v + (w + 4)) ≤ length (now output) ⌝ }
+    ensures { λ r. ⌜ Wrote (now (output .entry)) at (digits v a ++ (digits w b ++ digits 4 c)) (now (output .exit)) r ⌝ }
+{
+    let p = put_digits(output, at, v, a);
+    let q = put_digits(output, p, w, b);
+    put_digits(output, q, 4, c)
+}
+
 // What a line begins with: the first byte, a number of w digits and one of 2 bytes.
 fn put_header(output: &mut [u8], at: usize, w: usize, kind: u64, a: u64, b: u64) -> usize
     requires { ⌜ at + (6 + w) ≤ length (now output) ⌝ }
     ensures { λ r. ⌜ Wrote (now (output .entry)) at (header w kind a b) (now (output .exit)) r ⌝ }
 {
-    let p = put_digits(output, at, 2, kind);
-    let q = put_digits(output, p, w, a);
-    put_digits(output, q, 4, b)
+    put_numbers(output, at, 2, kind, w, a, b)
 }
 
 // An answer of the first byte, the number of the cause and N alone.
@@ -85,14 +93,13 @@ pub fn put_read(output: &mut [u8], at: usize, n: u64, list: &[u64]) -> usize
 }
 
 // The answer to an accepted place.
-pub fn put_place(output: &mut [u8], at: usize, n: u64, place: u64, points: u64) -> usize
-    requires { ⌜ at + 17 ≤ length (now output) ⌝ }
-    ensures { λ r. ⌜ Wrote (now (output .entry)) at (lineOf (placed n place points)) (now (output .exit)) r ⌝ }
+pub fn put_place(output: &mut [u8], at: usize, n: u64, place: u64, sum: u64, boats: u64) -> usize
+    requires { ⌜ at + 25 ≤ length (now output) ⌝ }
+    ensures { λ r. ⌜ Wrote (now (output .entry)) at (lineOf (placed n place sum boats)) (now (output .exit)) r ⌝ }
 {
     let a = put_header(output, at, 2, 135, 0, n);
-    let b = put_digits(output, a, 4, place);
-    let c = put_digits(output, b, 4, points);
-    put_end(output, c)
+    let b = put_numbers(output, a, 4, place, 8, sum, boats);
+    put_end(output, b)
 }
 
 // The line 90 of a print.

@@ -90,7 +90,7 @@ readOver (line ∷ lines) k = readBy (frameOf line) k ++ readOver lines (keptBy 
 unfoldable pub numberOf : Reply → ℕ
 numberOf (brief kind number n) = number
 numberOf (entries n list) = 0
-numberOf (placed n place points) = 0
+numberOf (placed n place sum boats) = 0
 numberOf (sheet m n) = 0
 numberOf (leaf number count slots) = 0
 

@@ -1,14 +1,14 @@
 -- The reviewer's page: what is claimed of the clubs' sheets, a sentence and a theorem each. The definitions that the statements name stand in
--- store_order (TreeOrder), store_keys (Key), call_outcomes (Kind, Causes, Outcome, Plain, Clubs), call_timed (Timed), call_orders (Conversion,
--- NumberOrder, Converts), call_history (History, TapeRuns), frame_sessions (Session) and frame_chunks (Chunk, Input).
+-- store_order (TreeOrder), store_ties (Groups, Ties), store_keys (Key), call_outcomes (Kind, Causes, Outcome, Plain, Clubs), call_timed (Timed),
+-- call_orders (Conversion, NumberOrder, Converts), call_history (History, TapeRuns), frame_sessions (Session) and frame_chunks (Chunk, Input).
 use mathlib.Core.Path.{_≡_}
-use mathlib.Core.Bool.{true}
+use mathlib.Core.Bool.{Bool, true}
 use mathlib.Core.Logic.{_≢_, _↔_}
 use mathlib.Core.List.{List, [], _∷_, _++_, map}
 use mathlib.Core.Option.{some}
-use Prim.Native.Nat.{ℕ, _-_, _^_, _<_}
+use Prim.Native.Nat.{ℕ, _+_, _-_, _^_, _≤_, _<_}
 use lib.ListN.{length, getD}
-use Rattle.base.specs.Lists.{total}
+use Rattle.base.specs.Lists.{Every, total}
 use Rattle.draw_shares.specs.Program.{Among, Draws}
 use Rattle.draw_shares.specs.Fraction.{_≐_, whole, unit}
 use Rattle.draw_shares.specs.Course.{Follows, share}
@@ -23,11 +23,11 @@ use Rattle.store_order.specs.TreeOrderLaws.{order-permutes}
 use Rattle.store_order.specs.Copied.{up}
 use Rattle.store_layout.specs.Layout.{Store, layOut}
 use Rattle.call_outcomes.specs.declared.Cause.{Cause}
-use Rattle.call_outcomes.specs.declared.Cause.the-variants.{NotASheet, NotTimed, TapeEnded}
+use Rattle.call_outcomes.specs.declared.Cause.the-variants.{NotASheet, NotTimed, EntryPresent, TapeEnded}
 use Rattle.call_outcomes.specs.declared.Answer.the-variants.{Checked, Changed, Present, Converted, Refused}
 use Rattle.call_outcomes.specs.Causes.{argumentCause}
 use Rattle.call_outcomes.specs.Outcome.{outcome, callProgram}
-use Rattle.call_outcomes.specs.Plain.{IsList, RightLengths, equalStores, plainView, plain, Call, delete, check, changing}
+use Rattle.call_outcomes.specs.Plain.{IsList, RightLengths, equalStores, plainView, plain, Call, delete, place, check, placed, changing}
 use Rattle.call_outcomes.specs.PlainLaws.{lengths-right}
 use Rattle.call_outcomes.specs.Clubs.{clubs, zeros}
 use Rattle.call_outcomes.specs.ClubsLaws.{clubs-roomy, clubs-lawful}
@@ -47,6 +47,11 @@ use Rattle.call_history.specs.ClubSupply.{clubs-suppliable}
 use Rattle.call_history.specs.Clause as clause
 use Rattle.call_history.specs.ClubSheets as sheets
 use Rattle.call_history.specs.ClubSheets.{ClubSheet}
+use Rattle.store_layout.specs.EntryLaws as entries
+use Rattle.store_ties.specs.Groups.{Group, groupFirst, groupEnd, placesSum, single, groupSums}
+use Rattle.store_ties.specs.Ties.{placingIn}
+use Rattle.store_ties.specs.GroupLaws as groups
+use Rattle.store_ties.specs.PlacingLaws as placings
 use Rattle.store_keys.specs.Key.{key, Rises, rankOf, present}
 use Rattle.store_keys.specs.KeyLaws as keys
 use Rattle.call_timed.specs.Timed as timed-calls
@@ -245,14 +250,15 @@ pub timed-check-untimed : (store : TimedStore) → TimedLengths clubs store → 
     → ((list : List ℕ) → TimedSheet list store → ⊥) → outcome (timed clubs) timed-calls.check tape store output .answer ≡ Refused NotTimed
 timed-check-untimed = timed-sheets.check-untimed
 
--- A find of an entry is answered by the list: that it is there, with its rank, or that it is not, with the rank at which it would stand. The
--- entry at a rank is found there; and a key that is present is that of the entry at its rank.
+-- A find of an entry is answered by the list: that it is there, with its rank, or that it is not, with the rank at which it would stand. An
+-- entry with the key of the one at a rank is found there, whatever its bit; and a key that is present is that of the entry at its rank.
 pub find-sheet : (list : List ℕ) (store : TimedStore) → TimedSheet list store → (e : ℕ) → key e ≢ 0 → (tape output : List ℕ)
     → outcome (timed clubs) (timed-calls.find e) tape store output .answer ≡ foundAt (present (key e) list) (rankOf (key e) list)
 find-sheet = timed-sheets.find-sheet
 
-pub find-entry : (list : List ℕ) (store : TimedStore) → TimedSheet list store → (r : ℕ) → r < length list → key (getD list r 0) ≢ 0 → (tape output : List ℕ)
-    → outcome (timed clubs) (timed-calls.find (getD list r 0)) tape store output .answer ≡ Present r
+pub find-entry : (list : List ℕ) (store : TimedStore) → TimedSheet list store → (r : ℕ) → r < length list
+    → (e : ℕ) → key e ≡ key (getD list r 0) → (tape output : List ℕ)
+    → outcome (timed clubs) (timed-calls.find e) tape store output .answer ≡ Present r
 find-entry = timed-sheets.find-entry
 
 pub entry-at : (k : ℕ) (list : List ℕ) → Rises list → present k list ≡ true → (rankOf k list < length list) × (key (getD list (rankOf k list) 0) ≡ k)
@@ -263,6 +269,56 @@ pub inserted-sheet : (list : List ℕ) (store : TimedStore) → TimedSheet list 
     → outcome (timed clubs) (timed-calls.insert e) tape store output .answer ≡ Changed n words
     → TimedSheet (changeList (Insert (rankOf (key e) list)) e list) (outcome (timed clubs) (timed-calls.insert e) tape store output .store)
 inserted-sheet = timed-sheets.inserted-sheet
+
+-- Entries are compared without bit 63; an insert of an entry whose key is there is refused by cause 10, whatever its bit.
+pub key-without-bit : (e : ℕ) → e < 2 ^ 63 → (key e ≡ e) × (key (2 ^ 63 + e) ≡ e)
+key-without-bit = keys.key-without-bit
+
+pub insert-present : (list : List ℕ) (store : TimedStore) → TimedSheet list store → (r : ℕ) → r < length list
+    → (e : ℕ) → key e ≡ key (getD list r 0) → (tape output : List ℕ)
+    → outcome (timed clubs) (timed-calls.insert e) tape store output .answer ≡ Refused EntryPresent
+insert-present = timed-sheets.insert-present
+
+-- ---- places and dead heats
+
+-- Every rank is in exactly one tied group: a longest run of boats, each but the first tied with the boat before her.
+pub in-group : (tied : ℕ → Bool) (N i : ℕ) → i < N
+    → Group tied N (groupFirst tied i) (groupEnd tied N i) × (groupFirst tied i ≤ i) × (i < groupEnd tied N i)
+in-group = groups.in-group
+
+pub only-group : (tied : ℕ → Bool) (N i first end : ℕ) → Group tied N first end → first ≤ i → i < end
+    → (first ≡ groupFirst tied i) × (end ≡ groupEnd tied N i)
+only-group = groups.only-group
+
+-- The sums of all groups add up to 1 + 2 + … + N.
+pub groups-sum : (tied : ℕ → Bool) (N : ℕ) → groupSums tied N ≡ placesSum 1 N
+groups-sum = placings.groups-sum
+
+-- Where no entry bears bit 63, rank i has place i + 1 and as many points, alone.
+pub no-bits : (list : List ℕ) → Every (λ e. e < 2 ^ 63) list → (i : ℕ) → i < length list → placingIn list i ≡ single i
+no-bits = placings.no-bits
+
+-- A place of an entry on a sheet is answered by the list: the first place of her tied group, the sum of its places, the number of its boats.
+pub place-sheet : (list : List ℕ) (store : Store) → ClubSheet list store → (i : ℕ) → i < length list → (tape output : List ℕ)
+    → outcome (plain clubs) (place i) tape store output .answer ≡ placed (placingIn list i)
+place-sheet = sheets.place-sheet
+
+pub timed-place-sheet : (list : List ℕ) (store : TimedStore) → TimedSheet list store → (i : ℕ) → i < length list → (tape output : List ℕ)
+    → outcome (timed clubs) (timed-calls.place i) tape store output .answer ≡ placed (placingIn list i)
+timed-place-sheet = timed-sheets.place-sheet
+
+-- Neither layout nor shares look at the bit. Where each entry is replaced by another one, the sheet with this shape has the other entries in
+-- the same slots, and the same counts; and the share of a sheet goes by its shape and the number of its entries alone.
+pub map-layOut : (f : ℕ → ℕ) → f 0 ≡ 0 → (list : List ℕ) (s : Shape)
+    → layOut clubs (map f list) s ≡ record { slots = map f (layOut clubs list s .slots); counts = layOut clubs list s .counts }
+map-layOut f none = entries.map-layOut f none clubs
+
+pub shape-shares : (calls calls′ : List Call) (store store′ : Store) → RightLengths clubs store → RightLengths clubs store′
+    → length (listAtEnd (plain clubs) calls) ≡ length (listAtEnd (plain clubs) calls′) → (s : Shape) → IsShape (length (listAtEnd (plain clubs) calls)) s
+    → share (equalStores (layOut clubs (listAtEnd (plain clubs) calls) s)) (history (plain clubs) calls store)
+    ≐ share (equalStores (layOut clubs (listAtEnd (plain clubs) calls′) s)) (history (plain clubs) calls′ store′)
+shape-shares calls calls′ store store′ right right′ =
+    shares.shape-shares (plain clubs) clubs-lawful calls calls′ store store′ (lengths-right clubs store right) (lengths-right clubs store′ right′)
 
 -- ---- the program
 

@@ -18,7 +18,7 @@ unfoldable pub handedCountsBy : Conversion → List ℕ → HandedCounts
 handedCountsBy c answer = record {
   number = returned (c .answer) .number;
   counts = c .counts;
-  answer = filled (returned (c .answer)) answer;
+  answer = filled 2 (returned (c .answer)) answer;
 }
 
 -- The conversion, where the answer slice has room for two values; otherwise the number 255, and nothing changes.

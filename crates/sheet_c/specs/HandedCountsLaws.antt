@@ -21,7 +21,7 @@ module _ (convert : List ℕ → List ℕ) (counts answer : List ℕ) where
   -- an answer slice with room
   pub conversion-handed : {given : Answer} {counts′ : List ℕ} {back : Returned} {r : ℕ} {answer′ : List ℕ} → 2 ≤ length answer
       → record { answer = given; counts = counts′ } ≡ conversion clubs convert counts
-      → back ≡ returned given → (r ≡ back .number) × (answer′ ≡ filled back answer)
+      → back ≡ returned given → (r ≡ back .number) × (answer′ ≡ filled 2 back answer)
       → record { number = r; counts = counts′; answer = answer′ } ≡ handedConversion convert counts answer
   unfolding handedConversion handedCountsBy
   conversion-handed l o b h =

@@ -1,4 +1,4 @@
-// The calls for programs in C: the number of the cause is returned, and the two values stand in an answer slice.
+// The calls for programs in C: the number of the cause is returned, and two or three values stand in an answer slice.
 ghost use mathlib.Core.Path.{_≡_};
 ghost use mathlib.Core.List.{[]};
 ghost use lib.ListN.{length};
@@ -15,12 +15,12 @@ use tree_rules::Change;
 #[no_mangle]
 pub extern "C" fn sheet_clear(slots: &mut [u64], counts: &mut [u16], answer: &mut [u64]) -> usize
     ensures { λ r. ⌜ record { number = r; store = storeOf (now (slots .exit)) (now (counts .exit)); output = []; answer = now (answer .exit) }
-        ≡ handed (plain clubs) clear [] (storeOf (now (slots .entry)) (now (counts .entry))) [] (now (answer .entry)) ⌝ }
+        ≡ handed (plain clubs) 2 clear [] (storeOf (now (slots .entry)) (now (counts .entry))) [] (now (answer .entry)) ⌝ }
 {
     if answer.len() < 2 {
         return 255;
     }
-    call_handed::hand(sheet_calls::clear(slots, counts).returned(), answer)
+    call_handed::hand(sheet_calls::clear(slots, counts).returned(), 2, answer)
 }
 
 // Makes the change of the list, with the entry of an insert.
@@ -33,13 +33,14 @@ fn hand_change(
     answer: &mut [u64],
 ) -> usize
     ensures { λ r. ⌜ record { number = r; store = storeOf (now (slots .exit)) (now (counts .exit)); output = []; answer = now (answer .exit) }
-        ≡ handed (plain clubs) (call.changing change entry) (now (tape .entry)) (storeOf (now (slots .entry)) (now (counts .entry))) [] (now (answer .entry)) ⌝ }
+        ≡ handed (plain clubs) 2 (call.changing change entry) (now (tape .entry)) (storeOf (now (slots .entry)) (now (counts .entry))) [] (now (answer .entry)) ⌝ }
 {
     if answer.len() < 2 {
         return 255;
     }
     call_handed::hand(
         sheet_calls::make_change(slots, counts, change, entry, tape).returned(),
+        2,
         answer,
     )
 }
@@ -55,7 +56,7 @@ pub extern "C" fn sheet_insert(
     answer: &mut [u64],
 ) -> usize
     ensures { λ r. ⌜ record { number = r; store = storeOf (now (slots .exit)) (now (counts .exit)); output = []; answer = now (answer .exit) }
-        ≡ handed (plain clubs) (call.insert rank entry) (now (tape .entry)) (storeOf (now (slots .entry)) (now (counts .entry))) [] (now (answer .entry)) ⌝ }
+        ≡ handed (plain clubs) 2 (call.insert rank entry) (now (tape .entry)) (storeOf (now (slots .entry)) (now (counts .entry))) [] (now (answer .entry)) ⌝ }
 {
     hand_change(slots, counts, Change::Insert(rank), entry, tape, answer)
 }
@@ -70,7 +71,7 @@ pub extern "C" fn sheet_delete(
     answer: &mut [u64],
 ) -> usize
     ensures { λ r. ⌜ record { number = r; store = storeOf (now (slots .exit)) (now (counts .exit)); output = []; answer = now (answer .exit) }
-        ≡ handed (plain clubs) (call.delete rank) (now (tape .entry)) (storeOf (now (slots .entry)) (now (counts .entry))) [] (now (answer .entry)) ⌝ }
+        ≡ handed (plain clubs) 2 (call.delete rank) (now (tape .entry)) (storeOf (now (slots .entry)) (now (counts .entry))) [] (now (answer .entry)) ⌝ }
 {
     hand_change(slots, counts, Change::Delete(rank), 0, tape, answer)
 }
@@ -86,18 +87,19 @@ pub extern "C" fn sheet_read(
     answer: &mut [u64],
 ) -> usize
     ensures { λ r. ⌜ record { number = r; store = storeOf (now (slots .entry)) (now (counts .entry)); output = now (output .exit); answer = now (answer .exit) }
-        ≡ handed (plain clubs) (call.read first last (length (now (output .entry)))) [] (storeOf (now (slots .entry)) (now (counts .entry))) (now (output .entry)) (now (answer .entry)) ⌝ }
+        ≡ handed (plain clubs) 2 (call.read first last (length (now (output .entry)))) [] (storeOf (now (slots .entry)) (now (counts .entry))) (now (output .entry)) (now (answer .entry)) ⌝ }
 {
     if answer.len() < 2 {
         return 255;
     }
     call_handed::hand(
         sheet_calls::read(slots, counts, first, last, output).returned(),
+        2,
         answer,
     )
 }
 
-// The place of the entry at the rank, and its points.
+// The place of the entry at the rank, the sum of the places of her tied group, and the number of its boats.
 #[no_mangle]
 pub extern "C" fn sheet_place(
     slots: &[u64],
@@ -106,24 +108,28 @@ pub extern "C" fn sheet_place(
     answer: &mut [u64],
 ) -> usize
     ensures { λ r. ⌜ record { number = r; store = storeOf (now (slots .entry)) (now (counts .entry)); output = []; answer = now (answer .exit) }
-        ≡ handed (plain clubs) (call.place rank) [] (storeOf (now (slots .entry)) (now (counts .entry))) [] (now (answer .entry)) ⌝ }
+        ≡ handed (plain clubs) 3 (call.place rank) [] (storeOf (now (slots .entry)) (now (counts .entry))) [] (now (answer .entry)) ⌝ }
 {
-    if answer.len() < 2 {
+    if answer.len() < 3 {
         return 255;
     }
-    call_handed::hand(sheet_calls::place(slots, counts, rank).returned(), answer)
+    call_handed::hand(
+        sheet_calls::place(slots, counts, rank).returned(),
+        3,
+        answer,
+    )
 }
 
 // The number of entries of a sheet.
 #[no_mangle]
 pub extern "C" fn sheet_check(slots: &[u64], counts: &[u16], answer: &mut [u64]) -> usize
     ensures { λ r. ⌜ record { number = r; store = storeOf (now (slots .entry)) (now (counts .entry)); output = []; answer = now (answer .exit) }
-        ≡ handed (plain clubs) call.check [] (storeOf (now (slots .entry)) (now (counts .entry))) [] (now (answer .entry)) ⌝ }
+        ≡ handed (plain clubs) 2 call.check [] (storeOf (now (slots .entry)) (now (counts .entry))) [] (now (answer .entry)) ⌝ }
 {
     if answer.len() < 2 {
         return 255;
     }
-    call_handed::hand(sheet_calls::check(slots, counts).returned(), answer)
+    call_handed::hand(sheet_calls::check(slots, counts).returned(), 2, answer)
 }
 
 // Counts in the order of the range numbers, put into the tree order.
@@ -135,7 +141,7 @@ pub extern "C" fn sheet_to_tree_order(counts: &mut [u16], answer: &mut [u64]) ->
     if answer.len() < 2 {
         return 255;
     }
-    call_handed::hand(sheet_orders::to_tree_order(counts).returned(), answer)
+    call_handed::hand(sheet_orders::to_tree_order(counts).returned(), 2, answer)
 }
 
 // Counts in the tree order, put back into the order of the range numbers.
@@ -147,5 +153,5 @@ pub extern "C" fn sheet_to_number_order(counts: &mut [u16], answer: &mut [u64]) 
     if answer.len() < 2 {
         return 255;
     }
-    call_handed::hand(sheet_orders::to_number_order(counts).returned(), answer)
+    call_handed::hand(sheet_orders::to_number_order(counts).returned(), 2, answer)
 }

@@ -15,9 +15,9 @@ use Rattle.call_outcomes.specs.ClubsLaws.{clubs-ready}
 use Rattle.call_open.specs.declared.Opened.{Opened}
 use Rattle.call_open.specs.Opening.{Opening}
 use Rattle.call_open.specs.AdmittedLaws.{plain-decoded, opened-sheet}
-use Rattle.call_questions.specs.Asked.{asked, Few, Answers, Readable, AsPlain}
+use Rattle.call_questions.specs.Asked.{asked, Answers, Readable, AsPlain}
 use Rattle.call_questions.specs.AskedLaws as questions
-use Rattle.call_questions.specs.ReadLaws.{decoded-list, entries-few}
+use Rattle.call_questions.specs.StartLaws.{decoded-list}
 
 module _ {slots counts work : List ℕ} {found : Opened} (w : Opening clubs (storeOf slots counts) found work) where
   abbrev store : Store
@@ -25,9 +25,6 @@ module _ {slots counts work : List ℕ} {found : Opened} (w : Opening clubs (sto
 
   pub readable : Readable found slots work
   readable = record { cap = clubs; counts = counts; ready = clubs-ready; sheet = opened-sheet clubs store w }
-
-  pub few : Few found
-  few n m e = entries-few (opened-sheet clubs store w n m e) clubs-ready
 
   lists : (c : Contents) → storeDecision (plainView clubs) store ≡ accept c → c .list ≡ nonzero slots
   lists c h = decoded-list clubs store c (plain-decoded clubs store c h)

@@ -81,14 +81,14 @@ pub fn read(slots: &[u64], counts: &[u16], first: usize, last: usize, output: &m
     call_questions::read(opened, slots, &work, first, last, output)
 }
 
-// The place of the entry at the rank, and its points.
+// The place of the entry at the rank: that of her tied group, the sum of its places and the number of its boats.
 pub fn place(slots: &[u64], counts: &[u16], rank: usize) -> Answer
     ensures { λ r. ⌜ outcomeOf r (now (slots .entry)) (now (counts .entry)) []
         ≡ outcome (plain clubs) (call.place rank) [] (storeOf (now (slots .entry)) (now (counts .entry))) [] ⌝ }
 {
     let mut work = [0u32; 256];
     let opened = sheet_open::examine(slots, counts, &mut work);
-    call_questions::place(opened, rank)
+    call_questions::place(opened, slots, &work, rank)
 }
 
 // The number of entries of a sheet.

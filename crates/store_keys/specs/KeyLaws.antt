@@ -3,8 +3,8 @@ use mathlib.Core.Path.{_≡_, refl, sym, ap, _∙_}
 use mathlib.Core.Bool.{Bool, true, false, _||_, or-assoc, or-false, or-true}
 use mathlib.Core.List.{List, [], _∷_, _++_}
 use mathlib.Core.Logic.{⊎-elim}
-use Prim.Native.Nat.{ℕ, zero, suc, _+_, _≤_, _<_}
-use native.Mathlib.Nat.{add-zero, eq-or-lt-of-le, le-of-suc-le-suc, not-suc-le-zero}
+use Prim.Native.Nat.{ℕ, zero, suc, _+_, _^_, _≤_, _<_}
+use native.Mathlib.Nat.{add-mod-left, add-zero, eq-or-lt-of-le, le-of-suc-le-suc, mod-eq-of-lt, mod-le, not-suc-le-zero}
 use native.Mathlib.Omega.{arith}
 use lib.Dec.{eqb, ltb}
 use lib.ListN.{length, getD, take, drop}
@@ -172,7 +172,12 @@ delete-rises i list = delete-from 0 i list
 -- An entry whose key is not 0 is not 0.
 pub key-entry : (e : ℕ) → 0 < key e → 0 < e
 unfolding key
-key-entry e h = h
+key-entry e h = omega (arith, mod-le e (2 ^ 63))
+
+-- The bit changes nothing of a key.
+pub key-without-bit : (e : ℕ) → e < 2 ^ 63 → (key e ≡ e) × (key (2 ^ 63 + e) ≡ e)
+unfolding key
+key-without-bit e h = (mod-eq-of-lt h, add-mod-left (2 ^ 63) e ∙ mod-eq-of-lt h)
 
 -- ---- what is found in a list that rises
 

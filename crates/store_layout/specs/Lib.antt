@@ -18,3 +18,4 @@ pub mod EmptyLaws
 pub mod LeafLoop
 pub mod LeavesLoop
 pub mod GatherLoop
+pub mod EntryLaws

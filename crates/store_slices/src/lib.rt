@@ -63,10 +63,12 @@ pub fn zero_slots(slots: &mut [u64], from: usize, to: usize)
     }
 }
 
-// The slot behind the first `first` entries of those from `start` on: the others stand from it on.
-fn skip_entries(slots: &[u64], start: usize, first: usize) -> usize
+// The slot behind the first `first` entries of those from `start` on: the others stand from it on. Where there are entries to pass, the last of
+// them stands before it.
+pub fn skip_entries(slots: &[u64], start: usize, first: usize) -> usize
     requires entries { ⌜ first ≤ length (nonzero (drop start (now slots))) ⌝ }
-    ensures { λ r. ⌜ drop first (nonzero (drop start (now (slots .entry)))) ≡ nonzero (drop r (now (slots .entry))) ⌝ }
+    ensures { λ r. ⌜ (drop first (nonzero (drop start (now (slots .entry)))) ≡ nonzero (drop r (now (slots .entry))))
+        × (0 < first → r ≤ length (now (slots .entry))) ⌝ }
 {
     let mut seen = 0;
     let mut at = start;

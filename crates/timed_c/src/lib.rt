@@ -1,4 +1,4 @@
-// The calls of timed sheets for programs in C: the number of the cause is returned, and the two values stand in an answer slice.
+// The calls of timed sheets for programs in C: the number of the cause is returned, and two or three values stand in an answer slice.
 ghost use mathlib.Core.Path.{_≡_};
 ghost use mathlib.Core.List.{[]};
 ghost use lib.ListN.{length};
@@ -17,13 +17,14 @@ pub extern "C" fn timed_clear(
     answer: &mut [u64],
 ) -> usize
     ensures { λ r. ⌜ record { number = r; store = timedStoreOf (now (slots .exit)) (now (counts .exit)) (now (balance .exit)); output = []; answer = now (answer .exit) }
-        ≡ handed (timed clubs) clear [] (timedStoreOf (now (slots .entry)) (now (counts .entry)) (now (balance .entry))) [] (now (answer .entry)) ⌝ }
+        ≡ handed (timed clubs) 2 clear [] (timedStoreOf (now (slots .entry)) (now (counts .entry)) (now (balance .entry))) [] (now (answer .entry)) ⌝ }
 {
     if answer.len() < 2 {
         return 255;
     }
     call_handed::hand(
         timed_calls::clear(slots, counts, balance).returned(),
+        2,
         answer,
     )
 }
@@ -39,13 +40,14 @@ pub extern "C" fn timed_insert(
     answer: &mut [u64],
 ) -> usize
     ensures { λ r. ⌜ record { number = r; store = timedStoreOf (now (slots .exit)) (now (counts .exit)) (now (balance .exit)); output = []; answer = now (answer .exit) }
-        ≡ handed (timed clubs) (call.insert entry) (now (tape .entry)) (timedStoreOf (now (slots .entry)) (now (counts .entry)) (now (balance .entry))) [] (now (answer .entry)) ⌝ }
+        ≡ handed (timed clubs) 2 (call.insert entry) (now (tape .entry)) (timedStoreOf (now (slots .entry)) (now (counts .entry)) (now (balance .entry))) [] (now (answer .entry)) ⌝ }
 {
     if answer.len() < 2 {
         return 255;
     }
     call_handed::hand(
         timed_calls::insert(slots, counts, balance, entry, tape).returned(),
+        2,
         answer,
     )
 }
@@ -61,13 +63,14 @@ pub extern "C" fn timed_delete(
     answer: &mut [u64],
 ) -> usize
     ensures { λ r. ⌜ record { number = r; store = timedStoreOf (now (slots .exit)) (now (counts .exit)) (now (balance .exit)); output = []; answer = now (answer .exit) }
-        ≡ handed (timed clubs) (call.delete rank) (now (tape .entry)) (timedStoreOf (now (slots .entry)) (now (counts .entry)) (now (balance .entry))) [] (now (answer .entry)) ⌝ }
+        ≡ handed (timed clubs) 2 (call.delete rank) (now (tape .entry)) (timedStoreOf (now (slots .entry)) (now (counts .entry)) (now (balance .entry))) [] (now (answer .entry)) ⌝ }
 {
     if answer.len() < 2 {
         return 255;
     }
     call_handed::hand(
         timed_calls::delete(slots, counts, balance, rank, tape).returned(),
+        2,
         answer,
     )
 }
@@ -82,13 +85,14 @@ pub extern "C" fn timed_find(
     answer: &mut [u64],
 ) -> usize
     ensures { λ r. ⌜ record { number = r; store = timedStoreOf (now (slots .entry)) (now (counts .entry)) (now (balance .entry)); output = []; answer = now (answer .exit) }
-        ≡ handed (timed clubs) (call.find entry) [] (timedStoreOf (now (slots .entry)) (now (counts .entry)) (now (balance .entry))) [] (now (answer .entry)) ⌝ }
+        ≡ handed (timed clubs) 2 (call.find entry) [] (timedStoreOf (now (slots .entry)) (now (counts .entry)) (now (balance .entry))) [] (now (answer .entry)) ⌝ }
 {
     if answer.len() < 2 {
         return 255;
     }
     call_handed::hand(
         timed_calls::find(slots, counts, balance, entry).returned(),
+        2,
         answer,
     )
 }
@@ -105,18 +109,19 @@ pub extern "C" fn timed_read(
     answer: &mut [u64],
 ) -> usize
     ensures { λ r. ⌜ record { number = r; store = timedStoreOf (now (slots .entry)) (now (counts .entry)) (now (balance .entry)); output = now (output .exit); answer = now (answer .exit) }
-        ≡ handed (timed clubs) (call.read first last (length (now (output .entry)))) [] (timedStoreOf (now (slots .entry)) (now (counts .entry)) (now (balance .entry))) (now (output .entry)) (now (answer .entry)) ⌝ }
+        ≡ handed (timed clubs) 2 (call.read first last (length (now (output .entry)))) [] (timedStoreOf (now (slots .entry)) (now (counts .entry)) (now (balance .entry))) (now (output .entry)) (now (answer .entry)) ⌝ }
 {
     if answer.len() < 2 {
         return 255;
     }
     call_handed::hand(
         timed_calls::read(slots, counts, balance, first, last, output).returned(),
+        2,
         answer,
     )
 }
 
-// The place of the entry at the rank, and its points.
+// The place of the entry at the rank, the sum of the places of her tied group, and the number of its boats.
 #[no_mangle]
 pub extern "C" fn timed_place(
     slots: &[u64],
@@ -126,13 +131,14 @@ pub extern "C" fn timed_place(
     answer: &mut [u64],
 ) -> usize
     ensures { λ r. ⌜ record { number = r; store = timedStoreOf (now (slots .entry)) (now (counts .entry)) (now (balance .entry)); output = []; answer = now (answer .exit) }
-        ≡ handed (timed clubs) (call.place rank) [] (timedStoreOf (now (slots .entry)) (now (counts .entry)) (now (balance .entry))) [] (now (answer .entry)) ⌝ }
+        ≡ handed (timed clubs) 3 (call.place rank) [] (timedStoreOf (now (slots .entry)) (now (counts .entry)) (now (balance .entry))) [] (now (answer .entry)) ⌝ }
 {
-    if answer.len() < 2 {
+    if answer.len() < 3 {
         return 255;
     }
     call_handed::hand(
         timed_calls::place(slots, counts, balance, rank).returned(),
+        3,
         answer,
     )
 }
@@ -146,13 +152,14 @@ pub extern "C" fn timed_check(
     answer: &mut [u64],
 ) -> usize
     ensures { λ r. ⌜ record { number = r; store = timedStoreOf (now (slots .entry)) (now (counts .entry)) (now (balance .entry)); output = []; answer = now (answer .exit) }
-        ≡ handed (timed clubs) call.check [] (timedStoreOf (now (slots .entry)) (now (counts .entry)) (now (balance .entry))) [] (now (answer .entry)) ⌝ }
+        ≡ handed (timed clubs) 2 call.check [] (timedStoreOf (now (slots .entry)) (now (counts .entry)) (now (balance .entry))) [] (now (answer .entry)) ⌝ }
 {
     if answer.len() < 2 {
         return 255;
     }
     call_handed::hand(
         timed_calls::check(slots, counts, balance).returned(),
+        2,
         answer,
     )
 }

@@ -10,9 +10,8 @@ use Rattle.call_outcomes.specs.Plain.{Question, writtenFor}
 use Rattle.call_outcomes.specs.Clubs.{clubs}
 use Rattle.call_outcomes.specs.ClubsLaws.{clubs-ready}
 use Rattle.call_open.specs.declared.Opened.{Opened}
-use Rattle.call_questions.specs.Asked.{asked, Few, Answers, Readable, AsPlain}
+use Rattle.call_questions.specs.Asked.{asked, Answers, Readable, AsPlain}
 use Rattle.call_questions.specs.AskedLaws as questions
-use Rattle.call_questions.specs.ReadLaws.{entries-few}
 use Rattle.call_timed.specs.Timed.{TimedStore, asPlain, timedQuestionCause, timedReply, timedWritten, timed, timedStoreOf, timedOutcomeOf}
 use Rattle.timed_open.specs.TimedOpening.{TimedOpening}
 use Rattle.timed_calls.specs.SheetLaws.{timed-list, plain-sheet}
@@ -28,9 +27,6 @@ module _ {slots counts balance work : List ℕ} {found : Opened} (w : TimedOpeni
 
   pub readable : Readable found slots work
   readable = record { cap = clubs; counts = counts; ready = clubs-ready; sheet = λ n m e. plain-sheet (w .sheet n m e) }
-
-  pub few : Few found
-  few n m e = entries-few (plain-sheet (w .sheet n m e)) clubs-ready
 
   module _ (q : Question) where
     pub asked-outcome : (tape output : List ℕ) (answer : Answer) (output′ : List ℕ)

@@ -13,7 +13,7 @@ use Rattle.call_outcomes.specs.Plain.{storeOf}
 use Rattle.call_outcomes.specs.Clubs.{clubs}
 use Rattle.call_outcomes.specs.ClubsLaws.{clubs-roomy, clubs-ready}
 use Rattle.call_open.specs.Opening.{OpenedSheet}
-use Rattle.call_questions.specs.ReadLaws.{decoded-list}
+use Rattle.call_questions.specs.StartLaws.{decoded-list}
 use Rattle.call_timed.specs.Timed.{timedView, timedStoreOf}
 use Rattle.call_timed.specs.ThirdLaws.{HoldsTimed, timed-holds}
 use Rattle.timed_open.specs.TimedOpening.{OpenedTimed}

@@ -125,14 +125,14 @@ pub fn read(
     call_questions::read(opened, slots, &work, first, last, output)
 }
 
-// The place of the entry at the rank, and its points.
+// The place of the entry at the rank: that of her tied group, the sum of its places and the number of its boats.
 pub fn place(slots: &[u64], counts: &[u16], balance: &[u64], rank: usize) -> Answer
     ensures { λ r. ⌜ timedOutcomeOf r (now (slots .entry)) (now (counts .entry)) (now (balance .entry)) []
         ≡ outcome (timed clubs) (call.place rank) [] (timedStoreOf (now (slots .entry)) (now (counts .entry)) (now (balance .entry))) [] ⌝ }
 {
     let mut work = [0u32; 256];
     let opened = timed_open::examine(slots, counts, balance, &mut work);
-    call_questions::place(opened, rank)
+    call_questions::place(opened, slots, &work, rank)
 }
 
 // The number of entries of a sheet.

@@ -5,26 +5,30 @@ use mathlib.Core.Logic.{_≢_}
 use mathlib.Core.List.{List}
 use mathlib.Core.Option.{Option, some, none}
 use Prim.Native.Nat.{ℕ, _<_}
-use borrow.Author.Tests.{ne-eqb}
+use native.Mathlib.Omega.{arith}
+use borrow.Author.Tests.{ne-eqb, lt-leb}
 use lib.ListN.{length, getD}
+use Rattle.base.specs.ListLaws.{every-getD}
 use Rattle.tree_rules.specs.declared.Change.the-variants.{Insert, Delete}
 use Rattle.tree_rules.specs.ChangeList.{changeList}
 use Rattle.store_layout.specs.Decode.{Contents, decode}
+use Rattle.store_ties.specs.Ties.{placingIn}
 use Rattle.store_keys.specs.Key.{key, rankOf, present}
 use Rattle.store_keys.specs.KeyLaws as keys
-use Rattle.call_outcomes.specs.declared.Cause.the-variants.{NotASheet, NotTimed}
+use Rattle.call_outcomes.specs.declared.Cause.the-variants.{NotASheet, NotTimed, EntryPresent}
 use Rattle.call_outcomes.specs.declared.Answer.the-variants.{Checked, Changed, Present, Refused}
 use Rattle.call_outcomes.specs.Kind.{SheetOf, applied, holds}
 use Rattle.call_outcomes.specs.KindLaws.{decoded-sheet}
 use Rattle.call_outcomes.specs.Causes.{firstOf, refuse, byLengths, byFound, storeDecision, lookedAt, argumentCause, byArguments, decision}
 use Rattle.call_outcomes.specs.Outcome.{refused, outcome}
 use Rattle.call_outcomes.specs.DecisionLaws.{outcome-refused}
-use Rattle.call_outcomes.specs.Plain.{countOf, questionCause, replyTo, foundBy, plainView, editOf}
+use Rattle.call_outcomes.specs.Plain.{placeOf, countOf, questionCause, placed, replyTo, foundBy, plainView, editOf}
 use Rattle.call_outcomes.specs.Clubs.{clubs}
 use Rattle.call_outcomes.specs.ClubsLaws.{clubs-lawful}
+use Rattle.call_history.specs.Refusals.{refused-by}
 use Rattle.call_history.specs.SingleCalls.{answered-by, changed-by}
 use Rattle.call_history.specs.ClubSheets.{ClubSheet}
-use Rattle.call_timed.specs.Timed.{TimedStore, TimedLengths, timedTest, timedBy, foundTimed, timedView, insertEntry, deleteRank, plainly, findEntry, asPlain, timedQuestionCause, foundAt, timedReply, timed, insert, delete, find, check}
+use Rattle.call_timed.specs.Timed.{TimedStore, TimedLengths, timedTest, timedBy, foundTimed, timedView, insertEntry, deleteRank, plainly, findEntry, asPlain, timedQuestionCause, foundAt, timedReply, timedChangeCause, timed, insert, delete, find, place, check}
 use Rattle.call_timed.specs.TimedLaws.{timed-right}
 use Rattle.timed_history.specs.Clause.{clubs-timed}
 
@@ -78,13 +82,31 @@ pub find-sheet : (list : List ℕ) (store : TimedStore) → TimedSheet list stor
 unfolding timedReply timedQuestionCause firstOf
 find-sheet list store w e some-key = answered-by (timed clubs) clubs-timed list store w (findEntry e) (rw (ne-eqb (key e) 0 some-key))
 
--- The entry at a rank is found there.
-pub find-entry : (list : List ℕ) (store : TimedStore) → TimedSheet list store → (r : ℕ) → r < length list → key (getD list r 0) ≢ 0 → (tape output : List ℕ)
-    → outcome (timed clubs) (find (getD list r 0)) tape store output .answer ≡ Present r
-unfolding foundAt
-find-entry list store w r below some-key tape output =
-    let at = keys.rank-is r list (w .is-list .rising) below in
-    find-sheet list store w (getD list r 0) some-key tape output ∙ rw (at .0, at .1)
+-- An entry with the key of the one at a rank is found there, whatever its bit; and an insert of it is refused by cause 10.
+module _ (list : List ℕ) (store : TimedStore) (w : TimedSheet list store) (r : ℕ) (below : r < length list)
+    (e : ℕ) (same : key e ≡ key (getD list r 0)) (tape output : List ℕ) where
+  some-key : key e ≢ 0
+  some-key zero-is = omega (arith, zero-is, same, every-getD (λ x. 0 < key x) list r 0 (keys.rise-above 0 0 list (omega arith) (w .is-list .rising)) below)
+
+  there : (present (key e) list ≡ true) × (rankOf (key e) list ≡ r)
+  there = rw same (keys.rank-is r list (w .is-list .rising) below)
+
+  pub find-entry : outcome (timed clubs) (find e) tape store output .answer ≡ Present r
+  unfolding foundAt
+  find-entry = find-sheet list store w e some-key tape output ∙ rw (there .0, there .1)
+
+  pub insert-present : outcome (timed clubs) (insert e) tape store output .answer ≡ Refused EntryPresent
+  unfolding argumentCause timedChangeCause firstOf
+  insert-present = refused-by (timed clubs) clubs-timed list store w (insert e) EntryPresent (rw (ne-eqb (key e) 0 some-key, there .0)) tape output
+
+-- ---- place
+
+-- A place of an entry is answered by the list, as on a plain sheet: that of her tied group.
+pub place-sheet : (list : List ℕ) (store : TimedStore) → TimedSheet list store → (i : ℕ) → i < length list → (tape output : List ℕ)
+    → outcome (timed clubs) (place i) tape store output .answer ≡ placed (placingIn list i)
+unfolding timedReply timedQuestionCause replyTo questionCause firstOf
+place-sheet list store w i below =
+    answered-by (timed clubs) clubs-timed list store w (asPlain (placeOf i)) (rw (lt-leb (length list) i below))
 
 -- ---- insert and delete
 

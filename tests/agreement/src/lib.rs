@@ -18,12 +18,16 @@ use std::fs;
 use std::io::{self, Write};
 use std::path::Path;
 
-/// The number of the cause or 0, and the two values.
-pub type Returned = [u64; 3];
+/// The number of the cause or 0, and the values: three of place, two of every
+/// other call and a zero behind them.
+pub type Returned = [u64; 4];
+
+/// What stands in an answer slice before a call: no value of a call.
+pub const UNWRITTEN: u64 = 0x7777_7777_7777_7777;
 
 fn returned(answer: Answer) -> Returned {
-    let [first, second] = answer.values();
-    [answer.number() as u64, first as u64, second as u64]
+    let [first, second, third] = answer.values().map(|value| value as u64);
+    [answer.number().into(), first, second, third]
 }
 
 /// The store of a kind of sheet, and the calls of that kind by both.
@@ -33,8 +37,22 @@ pub trait Lent: Clone + PartialEq {
     /// The call on the second implementation: what it returns, and the output.
     fn by_reference(&mut self, call: &Self::Call) -> (Returned, Vec<u64>);
 
-    /// The call on the proved library.
-    fn by_proved(&mut self, call: &Self::Call) -> (Returned, Vec<u64>);
+    /// The call on the proved library with an answer slice of this length: what it
+    /// returns, the answer slice, and the output.
+    fn proved_with(&mut self, call: &Self::Call, room: usize) -> (u64, Vec<u64>, Vec<u64>);
+
+    /// How many values the call returns.
+    fn values(call: &Self::Call) -> usize;
+
+    /// The call on the proved library, which writes its values and nothing behind
+    /// them.
+    fn by_proved(&mut self, call: &Self::Call) -> (Returned, Vec<u64>) {
+        let (number, mut answer, output) = self.proved_with(call, 4);
+        let rest = &mut answer[Self::values(call)..];
+        assert!(rest.iter().all(|value| *value == UNWRITTEN), "a call writes its values alone");
+        rest.fill(0);
+        ([number, answer[0], answer[1], answer[2]], output)
+    }
 
     /// The tape of an insert or a delete.
     fn tape(call: &mut Self::Call) -> Option<&mut Vec<u32>>;
@@ -94,8 +112,15 @@ impl Lent for Store {
         (returned(answer), out)
     }
 
-    fn by_proved(&mut self, call: &Call) -> (Returned, Vec<u64>) {
-        proved::call(call, self)
+    fn proved_with(&mut self, call: &Call, room: usize) -> (u64, Vec<u64>, Vec<u64>) {
+        proved::call_with(call, self, room)
+    }
+
+    fn values(call: &Call) -> usize {
+        match call {
+            Call::Place { .. } => 3,
+            _ => 2,
+        }
     }
 
     fn tape(call: &mut Call) -> Option<&mut Vec<u32>> {

@@ -124,11 +124,12 @@ fn difference(seed: u64, input: &[u8], written: &[u8], expected: &[u8]) -> Strin
 }
 
 /// What some histories of lines met: how many lines, how many answers of each
-/// kind and cause, and which numbers of entries.
+/// kind and cause, how many places of tied boats, and which numbers of entries.
 #[derive(Debug, Default)]
 pub struct Met {
     pub lines: u64,
     pub answers: BTreeMap<String, u64>,
+    pub tied: u64,
     pub lengths: BTreeSet<usize>,
 }
 
@@ -140,6 +141,7 @@ impl Met {
             if !text.starts_with('9') {
                 *met.answers.entry(text[..4].to_string()).or_default() += 1;
                 met.lengths.insert(usize::from_str_radix(&text[4..], 16).unwrap());
+                met.tied += u64::from(text.starts_with("8700") && !answer.ends_with(b"0001"));
             }
         }
         assert_eq!(met.answers.values().sum::<u64>(), lines, "an answer for each line");
@@ -151,6 +153,7 @@ impl Met {
         for (head, number) in other.answers {
             *self.answers.entry(head).or_default() += number;
         }
+        self.tied += other.tied;
         self.lengths.extend(other.lengths);
     }
 }

@@ -1,7 +1,7 @@
 //! The proved library, through its C functions (`include/sheet.h`,
 //! `include/frames.h`).
 
-use crate::{Call, Returned, Store};
+use crate::{Call, Store, UNWRITTEN};
 
 extern "C" {
     fn sheet_clear(slots: *mut u64, slots_len: usize, counts: *mut u16, counts_len: usize, answer: *mut u64, answer_len: usize) -> usize;
@@ -62,9 +62,9 @@ extern "C" {
 }
 
 /// The call with an answer slice of this length: what it returns, the answer
-/// slice, which held 77 everywhere, and the output.
+/// slice, and the output.
 pub fn call_with(call: &Call, store: &mut Store, room: usize) -> (u64, Vec<u64>, Vec<u64>) {
-    let mut answer = vec![77; room];
+    let mut answer = vec![UNWRITTEN; room];
     let (a, a_len) = (answer.as_mut_ptr(), room);
     let (s, s_len) = (store.slots.as_mut_ptr(), store.slots.len());
     let (c, c_len) = (store.counts.as_mut_ptr(), store.counts.len());
@@ -86,13 +86,6 @@ pub fn call_with(call: &Call, store: &mut Store, room: usize) -> (u64, Vec<u64>,
         }
     };
     (number as u64, answer, out)
-}
-
-/// The call with an answer slice of three: the third value stays as it was.
-pub fn call(call: &Call, store: &mut Store) -> (Returned, Vec<u64>) {
-    let (number, answer, output) = call_with(call, store, 3);
-    assert_eq!(answer[2], 77, "a call writes two values");
-    ([number, answer[0], answer[1]], output)
 }
 
 /// The kind of a line without its LF.

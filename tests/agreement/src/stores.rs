@@ -1,7 +1,9 @@
 //! Stores and tapes that several tests begin with.
 
+use crate::histories::with_tie;
 use crate::Store;
 use reference::layout::{Node, Shape, COUNTS, SIZE, SLOTS};
+use reference::places::TIED;
 use reference::random::SplitMix64;
 use std::collections::BTreeSet;
 
@@ -12,13 +14,14 @@ pub fn tape(random: &mut SplitMix64) -> Vec<u32> {
     words
 }
 
-/// A list of n entries that rise, all of them even and from 8 on.
-pub fn rising(n: usize, random: &mut SplitMix64) -> Vec<u64> {
-    let mut list = BTreeSet::new();
-    while list.len() < n {
-        list.insert((random.entry() | 8) & !1);
+/// A list of n entries whose keys rise, all of them even and from 8 on; of so many
+/// entries in 16 bit 63 is set.
+pub fn rising(n: usize, ties: usize, random: &mut SplitMix64) -> Vec<u64> {
+    let mut keys = BTreeSet::new();
+    while keys.len() < n {
+        keys.insert((random.entry() | 8) & !1 & !TIED);
     }
-    list.into_iter().collect()
+    keys.into_iter().map(|key| with_tie(random, key, ties)).collect()
 }
 
 /// The sheet of a list, a size and random balance entries.

@@ -1,7 +1,7 @@
 //! Timed sheets on both: the calls, the store with its third slice, and the proved
 //! library's C functions (`include/timed.h`).
 
-use crate::{returned, stores, Lent, Returned};
+use crate::{returned, stores, Lent, Returned, UNWRITTEN};
 use reference::layout::{COUNTS, SLOTS};
 use reference::random::SplitMix64;
 use reference::timed::{self, BALANCE};
@@ -78,11 +78,15 @@ impl Lent for Store {
         (returned(answer), out)
     }
 
-    /// With an answer slice of three: the third value stays as it was.
-    fn by_proved(&mut self, call: &Call) -> (Returned, Vec<u64>) {
-        let (number, answer, output) = proved_with(call, self, 3);
-        assert_eq!(answer[2], 77, "a call writes two values");
-        ([number, answer[0], answer[1]], output)
+    fn proved_with(&mut self, call: &Call, room: usize) -> (u64, Vec<u64>, Vec<u64>) {
+        call_with(call, self, room)
+    }
+
+    fn values(call: &Call) -> usize {
+        match call {
+            Call::Place { .. } => 3,
+            _ => 2,
+        }
     }
 
     fn tape(call: &mut Call) -> Option<&mut Vec<u32>> {
@@ -179,9 +183,9 @@ extern "C" {
 }
 
 /// The proved call with an answer slice of this length: what it returns, the
-/// answer slice, which held 77 everywhere, and the output.
-pub fn proved_with(call: &Call, store: &mut Store, room: usize) -> (u64, Vec<u64>, Vec<u64>) {
-    let mut answer = vec![77; room];
+/// answer slice, and the output.
+fn call_with(call: &Call, store: &mut Store, room: usize) -> (u64, Vec<u64>, Vec<u64>) {
+    let mut answer = vec![UNWRITTEN; room];
     let (a, a_len) = (answer.as_mut_ptr(), room);
     let (s, s_len) = (store.slots.as_mut_ptr(), store.slots.len());
     let (c, c_len) = (store.counts.as_mut_ptr(), store.counts.len());

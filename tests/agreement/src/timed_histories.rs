@@ -1,17 +1,14 @@
 //! Random timed histories, with refused calls among them.
 
-use crate::histories::{rank, tape};
+use crate::histories::{rank, tape, ties, with_tie, Met};
 use crate::timed::{Call, Store};
 use crate::Both;
 use reference::random::SplitMix64;
 
-/// How many calls met each cause, by its number.
-pub type Met = [u64; 12];
-
-/// An entry: at times zero or the highest; often one that is there or stands
-/// beside one that is, or a finish of a few times and sail numbers.
-fn entry(random: &mut SplitMix64, store: &Store) -> u64 {
-    match random.below(60) {
+/// An entry: at times zero or the highest but for bit 63; often one that is there
+/// or stands beside one that is, or a finish of a few times and sail numbers.
+fn entry(random: &mut SplitMix64, store: &Store, ties: usize) -> u64 {
+    let entry = match random.below(60) {
         0 => 0,
         1 => u64::MAX,
         2..=9 if store.n() > 0 => {
@@ -20,11 +17,12 @@ fn entry(random: &mut SplitMix64, store: &Store) -> u64 {
         }
         2..=29 => (random.below(600) as u64) << 32 | random.below(5) as u64,
         _ => random.entry(),
-    }
+    };
+    with_tie(random, entry, ties)
 }
 
 /// A call that as a rule brings the number of entries nearer to `target`.
-fn some_call(random: &mut SplitMix64, store: &Store, target: usize) -> Call {
+fn some_call(random: &mut SplitMix64, store: &Store, target: usize, ties: usize) -> Call {
     let n = store.n();
     match random.below(40) {
         0 | 1 => Call::Read {
@@ -32,12 +30,12 @@ fn some_call(random: &mut SplitMix64, store: &Store, target: usize) -> Call {
             last: rank(random, n),
             output: vec![5; random.below(80)],
         },
-        2 => Call::Place { rank: rank(random, n) },
-        3 => Call::Check,
-        4 if random.below(60) == 0 => Call::Clear,
-        4..=8 => Call::Find { entry: entry(random, store) },
+        2..=5 => Call::Place { rank: rank(random, n) },
+        6 => Call::Check,
+        7 if random.below(60) == 0 => Call::Clear,
+        7..=11 => Call::Find { entry: entry(random, store, ties) },
         _ if (n < target) == (random.below(8) != 0) => Call::Insert {
-            entry: entry(random, store),
+            entry: entry(random, store, ties),
             tape: tape(random),
         },
         _ => Call::Delete {
@@ -49,18 +47,18 @@ fn some_call(random: &mut SplitMix64, store: &Store, target: usize) -> Call {
 
 /// A timed history of so many calls, by way of each of the targets.
 pub fn history(seed: u64, calls: u64, targets: &[usize]) -> Met {
-    let mut met = [0; 12];
+    let mut met = Met::default();
     let mut random = SplitMix64::new(seed);
     let mut both = Both::new(seed, Store::unused());
-    met[both.call(Call::Check)[0] as usize] += 1;
-    met[both.call(Call::Clear)[0] as usize] += 1;
+    met.note(both.call(Call::Check));
+    met.note(both.call(Call::Clear));
     let mut target = targets[random.below(targets.len())];
     while both.made() < calls {
         if both.store.n() == target || random.below(3000) == 0 {
             target = targets[random.below(targets.len())];
         }
-        let call = some_call(&mut random, &both.store, target);
-        met[both.call(call)[0] as usize] += 1;
+        let call = some_call(&mut random, &both.store, target, ties(seed));
+        met.note(both.call(call));
     }
     met
 }

@@ -1,7 +1,7 @@
 //! The two conversions of the order of the counts, on both: any contents, other
-//! lengths, sizes about the largest, and answer slices that are too short.
+//! lengths, and sizes about the largest.
 
-use agreement::{proved, Both, Call, Store};
+use agreement::{Both, Call, Store};
 use reference::layout::COUNTS;
 use reference::random::SplitMix64;
 
@@ -19,9 +19,9 @@ fn store(m: u16, random: &mut SplitMix64) -> Store {
 fn there_and_back(store: Store, there: Call, back: Call) {
     let m = u64::from(store.counts[0]);
     let mut both = Both::new(m, store.clone());
-    assert_eq!(both.call(there), [0, m, 0]);
+    assert_eq!(both.call(there), [0, m, 0, 0]);
     assert_eq!(both.store == store, m <= 64, "M {m}");
-    assert_eq!(both.call(back), [0, m, 0]);
+    assert_eq!(both.call(back), [0, m, 0, 0]);
     assert!(both.store == store, "M {m}");
 }
 
@@ -44,7 +44,7 @@ fn one_after_the_other() {
         let mut both = Both::new(seed, store(m, &mut random));
         for _ in 0..40 {
             let call = [Call::ToTreeOrder, Call::ToNumberOrder][random.below(2)].clone();
-            assert_eq!(both.call(call), [0, u64::from(m), 0]);
+            assert_eq!(both.call(call), [0, u64::from(m), 0, 0]);
         }
     }
 }
@@ -65,26 +65,8 @@ fn refused() {
             };
             for call in [Call::ToTreeOrder, Call::ToNumberOrder] {
                 let mut both = Both::new(u64::from(m), store.clone());
-                assert_eq!(both.call(call), [cause, 0, 0], "M {m}, {length} counts");
+                assert_eq!(both.call(call), [cause, 0, 0, 0], "M {m}, {length} counts");
                 assert!(both.store == store, "M {m}, {length} counts");
-            }
-        }
-    }
-}
-
-/// A short answer slice comes before every cause, and nothing changes.
-#[test]
-fn short_answers() {
-    let mut random = SplitMix64::new(3003);
-    for (m, length) in [(100, COUNTS), (LARGEST, COUNTS), (LARGEST + 1, COUNTS), (100, 255), (u16::MAX, 0)] {
-        let mut before = store(m, &mut random);
-        before.counts.resize(length, m);
-        for call in [Call::ToTreeOrder, Call::ToNumberOrder] {
-            for room in [0, 1] {
-                let mut store = before.clone();
-                let (number, answer, _) = proved::call_with(&call, &mut store, room);
-                assert_eq!((number, answer), (255, vec![77; room]), "M {m}, {length} counts");
-                assert!(store == before, "M {m}, {length} counts");
             }
         }
     }

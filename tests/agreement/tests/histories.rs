@@ -1,37 +1,32 @@
 //! Long random histories on both, with refused calls and conversions among them.
 
-use agreement::histories::{history, BORDER, FULL, SHORT};
+use agreement::histories::{history, Met, BORDER, FULL, SHORT};
 use agreement::{say, Both, Call, Store};
 use reference::random::SplitMix64;
 
-/// Histories of `calls` calls each; how many calls met each cause.
-fn histories(seeds: std::ops::Range<u64>, calls: u64, targets: &[usize]) -> [u64; 8] {
-    let mut met = [0; 8];
+/// Histories of `calls` calls each; every one of these causes was met.
+fn histories(seeds: std::ops::Range<u64>, calls: u64, targets: &[usize], causes: &[usize]) {
+    let mut met = Met::default();
     for seed in seeds {
-        for (sum, number) in met.iter_mut().zip(history(seed, calls, targets)) {
-            *sum += number;
-        }
+        met.add(history(seed, calls, targets));
     }
-    say(&format!("{} calls", met.iter().sum::<u64>()));
-    met
+    say(&format!("{} calls", met.calls()));
+    met.assert_met(causes);
 }
 
 #[test]
 fn short_lists() {
-    let met = histories(0..10, 10_000, SHORT);
-    assert!(met[0] > 0 && met[3] > 0 && met[4] > 0 && met[7] > 0, "{met:?}");
+    histories(0..10, 10_000, SHORT, &[0, 3, 4, 7]);
 }
 
 #[test]
 fn from_one_range_to_many() {
-    let met = histories(100..110, 10_000, BORDER);
-    assert!(met[0] > 0 && met[2] > 0 && met[3] > 0 && met[4] > 0 && met[6] > 0 && met[7] > 0, "{met:?}");
+    histories(100..110, 10_000, BORDER, &[0, 2, 3, 4, 6, 7]);
 }
 
 #[test]
 fn full_and_back() {
-    let met = histories(200..204, 25_000, FULL);
-    assert!(met[0] > 0 && met[2] > 0 && met[5] > 0 && met[6] > 0 && met[7] > 0, "{met:?}");
+    histories(200..204, 25_000, FULL, &[0, 2, 5, 6, 7]);
 }
 
 /// Document 01: N 1,024, insert at rank 1,024 gives 5, at rank 1,025 gives 4.
@@ -48,6 +43,6 @@ fn marks_of_a_full_sheet() {
     }
     for (rank, number) in [(1024, 5), (1025, 4)] {
         let answer = both.call(Call::Insert { rank, entry: 1, tape: vec![0; 2048] });
-        assert_eq!(answer, [number, 0, 0]);
+        assert_eq!(answer, [number, 0, 0, 0]);
     }
 }

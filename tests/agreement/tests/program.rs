@@ -6,6 +6,7 @@ use agreement::lines;
 use agreement::program::{agrees, expected_for, lines_of, same, written_for, Met};
 use agreement::say;
 use reference::frames::frame_kind;
+use reference::places::TIED;
 use reference::random::SplitMix64;
 use std::io::Write;
 use std::ops::Range;
@@ -28,21 +29,22 @@ fn tape_line(words: usize) -> String {
     format!("04{}", "00000001".repeat(words))
 }
 
-/// Lines that make a sheet of n entries, 1, 2, …, and leave few words waiting.
-fn entries(n: usize) -> Vec<String> {
+/// Lines that make a sheet of n entries, 1, 2, …, each with this bit or none, and
+/// leave few words waiting.
+fn entries(n: usize, bit: u64) -> Vec<String> {
     let mut random = SplitMix64::new(3);
     let mut program = reference::frames::Program::new();
     let mut lines = Vec::new();
     let mut answers = Vec::new();
     let mut length = 0;
-    while length < n {
+    while length < n as u64 {
         while program.waiting().len() < 300 {
             let line = format!("04{:08X}", random.next_u32());
             program.step(line.as_bytes(), &mut answers);
             lines.push(line);
         }
         length += 1;
-        let line = format!("01{:04X}{length:016X}", random.below(length));
+        let line = format!("01{:04X}{:016X}", random.below(length as usize), length | bit);
         program.step(line.as_bytes(), &mut answers);
         lines.push(line);
     }
@@ -68,7 +70,7 @@ fn worked_example() {
 /// Document 01: N 1,024, insert at rank 1,024 gives 5, at rank 1,025 gives 4.
 #[test]
 fn marks_of_a_full_sheet() {
-    let mut input = entries(1024);
+    let mut input = entries(1024, 0);
     let made = input.len();
     input.extend(strings(&[
         "0104000000000000000001",
@@ -82,8 +84,42 @@ fn marks_of_a_full_sheet() {
     let written = answers(&input);
     assert_eq!(
         written[made..made + 7],
-        ["81050400", "81040400", "81030400", "8700040004000400", "87040400", "82040400", "85000400"]
+        ["81050400", "81040400", "81030400", "870004000400000004000001", "87040400", "82040400", "85000400"]
     );
+}
+
+/// Document 02, F-3: B ties with A, which bears the bit at rank 0 without effect;
+/// D and E tie with C. With C struck out they tie with B.
+#[test]
+fn dead_heats() {
+    let boats = ["800000000000000A", "800000000000000B", "000000000000000C", "800000000000000D", "800000000000000E"];
+    let mut input = vec![tape_line(16)];
+    input.extend(boats.iter().enumerate().map(|(rank, boat)| format!("01{rank:04X}{boat}")));
+    input.extend(strings(&["070000", "070001", "070002", "070003", "070004", "070005"]));
+    input.extend(strings(&["020002", "070000", "070003"]));
+    let output = [
+        "870000050001000000030002",
+        "870000050001000000030002",
+        "8700000500030000000C0003",
+        "8700000500030000000C0003",
+        "8700000500030000000C0003",
+        "87040005",
+        "82000004",
+        "8700000400010000000A0004",
+        "8700000400010000000A0004",
+    ];
+    assert_eq!(answers(&input)[6..], output);
+}
+
+/// 1,024 boats that tie have place 1; the sum of the places, 524,800, takes three
+/// of its 4 bytes.
+#[test]
+fn dead_heat_of_a_full_sheet() {
+    let mut input = entries(1024, TIED);
+    let made = input.len();
+    input.extend((0..1024).map(|rank| format!("07{rank:04X}")));
+    let written = answers(&input);
+    assert!(written[made..].iter().all(|answer| answer == "870004000001000802000400"));
 }
 
 /// 1,024 words wait; one more is refused with 9, whole lines at a time.
@@ -110,7 +146,7 @@ fn waiting_words() {
 /// 64 entries are read, 65 give 6; a rank past N gives 4 before that.
 #[test]
 fn long_reads() {
-    let mut input = entries(100);
+    let mut input = entries(100, 0);
     let made = input.len();
     for ranks in ["0000003F", "00000040", "0000FFFF", "00240063", "00230063", "00240064", "00010000", "00640064", "00630063"] {
         input.push(format!("03{ranks}"));
@@ -181,7 +217,7 @@ fn ends_of_input() {
 #[test]
 fn damaged_lines() {
     let mut random = SplitMix64::new(61);
-    let mut input = entries(70).join("\n").into_bytes();
+    let mut input = entries(70, 0).join("\n").into_bytes();
     let made = lines_of(&input).len();
     input.extend_from_slice(b"\n05\n");
     let frames = ["01000A000000000000000B", "02000A", "0300000001", "0400ABCDEF", "05", "06", "07000A"];
@@ -218,8 +254,10 @@ fn histories(seeds: Range<u64>, lines: u64, targets: &[usize]) -> Met {
     met
 }
 
-/// The answers, each by kind and cause, were given, and lists were so long.
+/// The answers, each by kind and cause, were given, lists were so long, and boats
+/// tied.
 fn assert_met(met: &Met, answers: &[&str], lengths: &[usize]) {
+    assert!(met.tied > 0, "{met:?}");
     for answer in answers {
         assert!(met.answers.contains_key(*answer), "{answer} in {:?}", met.answers);
     }

@@ -1,9 +1,8 @@
 //! Damaged stores, stores by the former leaf rule and in the former order, wrong
-//! lengths, tapes that end at every place, and answer slices that are too short,
-//! on both.
+//! lengths, and tapes that end at every place, on both.
 
 use agreement::stores::{sheet_of_size, tape};
-use agreement::{proved, Both, Call, Store};
+use agreement::{Both, Call, Store};
 use reference::layout::{Shape, SIZE};
 use reference::random::SplitMix64;
 
@@ -34,7 +33,7 @@ fn all_calls(seed: u64, store: &Store) -> [u64; 6] {
     ]
     .map(|call| {
         let mut both = Both::new(seed, store.clone());
-        let [number, _, _] = both.call(call);
+        let [number, ..] = both.call(call);
         assert!(number == 0 || both.store == *store);
         number
     })
@@ -93,7 +92,7 @@ fn leaf_rule_of_document_01() {
         let list: Vec<u64> = (0..n).map(|_| random.entry()).collect();
         for m in [n, n + random.below(n.max(1)), n + random.below(n.max(1)), (2 * n).max(1) - 1] {
             let sheet = sheet_of_size(&list, m, &mut random);
-            assert_eq!(Both::new(61, sheet.clone()).call(Call::Check), [0, n as u64, 0], "N {n} M {m}");
+            assert_eq!(Both::new(61, sheet.clone()).call(Call::Check), [0, n as u64, 0, 0], "N {n} M {m}");
             let store = by_the_leaf_rule_of_01(&sheet);
             let same = store == sheet;
             assert_eq!(same, n == m && m <= 64, "N {n} M {m}");
@@ -121,14 +120,14 @@ fn number_order() {
         for m in [n, n + random.below(n.max(1)), (2 * n).max(1) - 1] {
             let sheet = sheet_of_size(&list, m, &mut random);
             let mut both = Both::new(62, sheet.clone());
-            assert_eq!(both.call(Call::ToNumberOrder), [0, m as u64, 0]);
+            assert_eq!(both.call(Call::ToNumberOrder), [0, m as u64, 0, 0]);
             assert_eq!(both.store == sheet, m <= 64, "N {n} M {m}");
             if m > 64 {
                 assert_eq!(all_calls(62, &both.store), [2, 2, 2, 2, 2, 0], "N {n} M {m}");
             }
-            assert_eq!(both.call(Call::ToTreeOrder), [0, m as u64, 0]);
+            assert_eq!(both.call(Call::ToTreeOrder), [0, m as u64, 0, 0]);
             assert!(both.store == sheet, "N {n} M {m}");
-            assert_eq!(both.call(Call::Check), [0, n as u64, 0], "N {n} M {m}");
+            assert_eq!(both.call(Call::Check), [0, n as u64, 0, 0], "N {n} M {m}");
         }
     }
 }
@@ -157,35 +156,13 @@ fn tapes_that_end() {
                     0 => Call::Insert { rank, entry: 9, tape: words[..length].to_vec() },
                     _ => Call::Delete { rank, tape: words[..length].to_vec() },
                 };
-                let [_, _, read] = Both::new(seed, before.clone()).call(made(words.len()));
+                let [_, _, read, _] = Both::new(seed, before.clone()).call(made(words.len()));
                 for length in 0..read as usize {
                     let mut both = Both::new(seed, before.clone());
-                    assert_eq!(both.call(made(length)), [7, 0, 0]);
+                    assert_eq!(both.call(made(length)), [7, 0, 0, 0]);
                     assert!(both.store == before);
                 }
             }
-        }
-    }
-}
-
-#[test]
-fn short_answers() {
-    let before = sheet(41, 40);
-    for room in [0, 1] {
-        for call in [
-            Call::Clear,
-            Call::Check,
-            Call::Insert { rank: 0, entry: 3, tape: vec![1; 2048] },
-            Call::Delete { rank: 0, tape: vec![1; 2048] },
-            Call::Read { first: 0, last: 0, output: vec![5; 2] },
-            Call::Place { rank: 0 },
-            Call::ToTreeOrder,
-            Call::ToNumberOrder,
-        ] {
-            let mut store = before.clone();
-            let (number, answer, output) = proved::call_with(&call, &mut store, room);
-            assert_eq!((number, answer), (255, vec![77; room]));
-            assert!(store == before && output.iter().all(|value| *value == 5));
         }
     }
 }

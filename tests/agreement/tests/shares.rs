@@ -2,8 +2,9 @@
 //! history is tried, by words that decide its faces.
 
 use agreement::shares::by_course;
-use agreement::{proved, Call, Store};
+use agreement::{Call, Lent, Store};
 use reference::coins::{Source, Undecided};
+use reference::places::TIED;
 use reference::shares::{self, every_course, shares_by_courses, table_of, Course, SheetKey, Table};
 
 /// The call with this tape.
@@ -30,7 +31,7 @@ fn proved_table(history: &[shares::Call]) -> Table {
     table_of(every_course(|course| {
         let mut guide = shares::Store::cleared();
         let mut store = Store::unused();
-        proved::call(&Call::Clear, &mut store);
+        store.by_proved(&Call::Clear);
         for &call in history {
             by_course(&mut store, course, |source| guide.call(call, source), |tape| with_tape(call, tape));
         }
@@ -90,6 +91,26 @@ fn tables_are_those_of_the_rules() {
     for history in with_the_same_list() {
         assert!(proved_table(&history) == shares_by_courses(&history));
     }
+}
+
+/// Document 02, F-3: "Layout and shares do not look at the bit." The table of the
+/// same calls without it is the same but for the bits in the sheets.
+#[test]
+fn shares_do_not_look_at_bit_63() {
+    let inserts = [(0, 1), (1, 2 | TIED), (0, 3 | TIED), (3, 4), (2, 5 | TIED)];
+    let history = |bits: u64| {
+        let inserts = inserts.map(|(rank, entry)| insert(rank, entry & bits));
+        inserts.into_iter().chain([delete(1)]).collect::<Vec<_>>()
+    };
+    let (with, without) = (proved_table(&history(u64::MAX)), proved_table(&history(!TIED)));
+    assert!(with == shares_by_courses(&history(u64::MAX)));
+    assert!(with != without);
+    let bare = with.into_iter().map(|(sheet, share)| {
+        let mut store = sheet.store();
+        store.slots.iter_mut().for_each(|slot| *slot &= !TIED);
+        (store.sheet(), share)
+    });
+    assert!(table_of(bare) == without);
 }
 
 /// A bent rule is noticed: where the first draw of a call has more than two

@@ -1,8 +1,10 @@
 //! One step on a line, by both: answers, store and waiting tape after every
-//! line of random histories, stores that are no sheets, and lent slices that do not fit.
+//! line of random histories, places of tied boats, stores that are no sheets, and
+//! lent slices that do not fit.
 
 use agreement::histories::{BORDER, FULL, SHORT};
 use agreement::program::lines_of;
+use agreement::stores::{rising, sheet_of_size};
 use agreement::{lines, proved, Store};
 use reference::frames::{self, Program, Waiting, WAITING_WORDS};
 use reference::layout::{COUNTS, SLOTS};
@@ -47,6 +49,28 @@ fn histories_of_lines() {
     history(2000, 20_000, SHORT);
     history(2001, 20_000, BORDER);
     history(2002, 30_000, FULL);
+}
+
+/// Frame 07 for every rank, and one too high, of sheets with ties.
+#[test]
+fn places() {
+    let mut random = SplitMix64::new(2050);
+    for n in [0, 1, 5, 64, 70, 300, 1024] {
+        for ties in [0, 8, 15, 16] {
+            let list = rising(n, ties, &mut random);
+            let mut store = sheet_of_size(&list, n + random.below(n.max(1)), &mut random);
+            let sheet = store.clone();
+            let (mut tape, mut waiting, mut output) = (vec![0; WAITING_WORDS], [0], vec![0; LONGEST]);
+            for rank in 0..=n {
+                let line = format!("07{rank:04X}");
+                let (mut expected, mut empty) = (Vec::new(), Waiting::new());
+                frames::step(line.as_bytes(), &mut store.slots, &mut store.counts, &mut empty, &mut expected);
+                let bytes = proved::step(line.as_bytes(), &mut store, &mut tape, &mut waiting, &mut output);
+                assert_eq!(output[..bytes].escape_ascii().to_string(), expected.escape_ascii().to_string(), "N {n}, {line}");
+            }
+            assert!(store == sheet, "N {n}");
+        }
+    }
 }
 
 /// Stores of any contents and of other lengths: the answers and the stores are the same.

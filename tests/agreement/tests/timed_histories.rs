@@ -1,25 +1,22 @@
 //! Long random timed histories on both, with refused calls among them; finds of
 //! every entry and beside every entry.
 
-use agreement::histories::{BORDER, FULL, SHORT};
+use agreement::histories::{Met, BORDER, FULL, SHORT};
 use agreement::stores::{rising, tape};
 use agreement::timed::{Call, Store};
-use agreement::timed_histories::{history, Met};
+use agreement::timed_histories::history;
 use agreement::{say, Both};
+use reference::places::TIED;
 use reference::random::SplitMix64;
 
 /// Histories of `calls` calls each; every one of these causes was met.
 fn histories(seeds: std::ops::Range<u64>, calls: u64, targets: &[usize], causes: &[usize]) {
-    let mut met: Met = [0; 12];
+    let mut met = Met::default();
     for seed in seeds {
-        for (sum, number) in met.iter_mut().zip(history(seed, calls, targets)) {
-            *sum += number;
-        }
+        met.add(history(seed, calls, targets));
     }
-    say(&format!("{} calls", met.iter().sum::<u64>()));
-    for cause in causes {
-        assert!(met[*cause] > 0, "cause {cause} in {met:?}");
-    }
+    say(&format!("{} calls", met.calls()));
+    met.assert_met(causes);
 }
 
 #[test]
@@ -42,35 +39,41 @@ fn full_and_back() {
 fn inserts_in_any_order() {
     let mut random = SplitMix64::new(5300);
     for n in [3, 40, 150, 1024] {
-        let list = rising(n, &mut random);
+        let list = rising(n, 8, &mut random);
         let mut both = Both::new(5300, Store::unused());
         both.call(Call::Clear);
         let mut left = list.clone();
         while !left.is_empty() {
             let entry = left.swap_remove(random.below(left.len()));
             let tape = tape(&mut random);
-            let [number, n, _] = both.call(Call::Insert { entry, tape });
+            let [number, n, ..] = both.call(Call::Insert { entry, tape });
             assert_eq!((number, n as usize), (0, list.len() - left.len()));
         }
         assert!(both.store.entries().eq(list), "N {n}");
     }
 }
 
-/// Each entry, balance entries among them, and its neighbours; sizes from N to 2N − 1.
+/// Each entry, balance entries among them, and its neighbours, with and without
+/// bit 63; sizes from N to 2N − 1.
 #[test]
 fn every_find() {
     let mut random = SplitMix64::new(5400);
     for n in [0, 1, 2, 5, 33, 64, 65, 130, 300, 700, 1024] {
         for m in [n, n + random.below(n.max(1)), (2 * n).max(1) - 1] {
-            let list = rising(n, &mut random);
+            let list = rising(n, 8, &mut random);
             let mut both = Both::new(5400, Store::of_size(&list, m, &mut random));
             for (rank, &entry) in list.iter().enumerate() {
-                assert_eq!(both.call(Call::Find { entry }), [0, 1, rank as u64], "N {n} M {m}");
-                both.call(Call::Find { entry: entry - 1 });
-                both.call(Call::Find { entry: entry + 1 });
+                let rank = rank as u64;
+                for entry in [entry, entry ^ TIED] {
+                    assert_eq!(both.call(Call::Find { entry }), [0, 1, rank, 0], "N {n} M {m}");
+                    assert_eq!(both.call(Call::Find { entry: entry - 1 }), [0, 0, rank, 0], "N {n} M {m}");
+                    assert_eq!(both.call(Call::Find { entry: entry + 1 }), [0, 0, rank + 1, 0], "N {n} M {m}");
+                }
             }
-            assert_eq!(both.call(Call::Find { entry: 1 }), [0, 0, 0], "N {n} M {m}");
-            assert_eq!(both.call(Call::Find { entry: u64::MAX }), [0, 0, n as u64], "N {n} M {m}");
+            for bit in [0, TIED] {
+                assert_eq!(both.call(Call::Find { entry: 1 | bit }), [0, 0, 0, 0], "N {n} M {m}");
+                assert_eq!(both.call(Call::Find { entry: (TIED - 1) | bit }), [0, 0, n as u64, 0], "N {n} M {m}");
+            }
         }
     }
 }

@@ -1,13 +1,14 @@
-//! Timed stores damaged in each of the three slices, entries that do not rise,
-//! wrong lengths, the order of the causes, tapes that end at every place, and
-//! outputs and answer slices that are too short, on both.
+//! Timed stores damaged in each of the three slices, entries that do not rise or
+//! are zero without bit 63, wrong lengths, the order of the causes, entries that
+//! are there, tapes that end at every place, and short outputs, on both.
 
 use agreement::stores::{rising, tape};
-use agreement::timed::{proved_with, Call, Store};
+use agreement::timed::{Call, Store};
 use agreement::Both;
 use reference::conversions::to_number_order;
 use reference::layout::{COUNTS, SLOTS};
 use reference::order::place;
+use reference::places::TIED;
 use reference::random::SplitMix64;
 use reference::sizes::Size;
 use reference::timed::BALANCE;
@@ -19,7 +20,7 @@ const REFUSED_11: [u64; 7] = [11, 11, 11, 11, 11, 11, 0];
 /// A timed sheet of n entries, of any size that it can have.
 fn sheet(seed: u64, n: usize) -> Store {
     let mut random = SplitMix64::new(seed);
-    let list = rising(n, &mut random);
+    let list = rising(n, 8, &mut random);
     let m = n + random.below(n.max(1));
     Store::of_size(&list, m, &mut random)
 }
@@ -39,7 +40,7 @@ fn all_calls(seed: u64, store: &Store) -> [u64; 7] {
     ]
     .map(|call| {
         let mut both = Both::new(seed, store.clone());
-        let [number, _, _] = both.call(call);
+        let [number, ..] = both.call(call);
         assert!(number == 0 || both.store == *store);
         number
     })
@@ -59,7 +60,8 @@ fn every_count_changed() {
     }
 }
 
-/// Zeros, entries in gaps, and other entries, with which the sheet may rise or not.
+/// Zeros, entries in gaps, and other entries, with which the sheet may rise or not;
+/// with the other bit 63 it rises, and the third slice may be wrong.
 #[test]
 fn slots_changed() {
     for (seed, n) in [(6011, 0), (6012, 5), (6013, 70), (6014, 1024)] {
@@ -68,9 +70,10 @@ fn slots_changed() {
         for _ in 0..1000 {
             let mut store = before.clone();
             let k = random.below((3 * n + 3).min(SLOTS));
-            store.slots[k] = match random.below(3) {
+            store.slots[k] = match random.below(4) {
                 0 => 0,
                 1 => random.entry(),
+                2 => store.slots[k] ^ TIED,
                 _ => store.slots[k].wrapping_add(1),
             };
             all_calls(seed, &store);
@@ -85,7 +88,7 @@ fn every_word_of_the_third_slice_changed() {
         let before = sheet(seed, n);
         for k in 0..BALANCE {
             let held = before.balance[k];
-            for wrong in [held ^ 1, held ^ 1 << 63, 0].into_iter().filter(|wrong| *wrong != held) {
+            for wrong in [held ^ 1, held ^ TIED, 0].into_iter().filter(|wrong| *wrong != held) {
                 let mut store = before.clone();
                 store.balance[k] = wrong;
                 assert_eq!(all_calls(seed, &store), REFUSED_11, "N {n} word {k}");
@@ -100,7 +103,7 @@ fn another_third_slice() {
     let mut random = SplitMix64::new(6030);
     for n in [65, 100, 300, 1024] {
         for m in [n, 2 * n - 1] {
-            let list = rising(n, &mut random);
+            let list = rising(n, 8, &mut random);
             let sheet = Store::of_size(&list, m, &mut random);
             let levels = Size::new(m).height() + 1;
             let mut in_tree_order = vec![0; BALANCE];
@@ -124,29 +127,48 @@ fn number_order() {
     let mut random = SplitMix64::new(6035);
     for n in [65, 100, 300, 1024] {
         for m in [n, n + random.below(n), 2 * n - 1] {
-            let mut store = Store::of_size(&rising(n, &mut random), m, &mut random);
+            let mut store = Store::of_size(&rising(n, 8, &mut random), m, &mut random);
             assert_eq!(to_number_order(&mut store.counts).number(), 0);
             assert_eq!(all_calls(6035, &store), [2, 2, 2, 2, 2, 2, 0], "N {n} M {m}");
         }
     }
 }
 
-/// Neighbours that fall or are equal, anywhere, in one leaf or in two; the third
-/// slice is that of their own balance entries.
+/// Neighbours whose keys fall or are equal, anywhere, in one leaf or in two,
+/// whatever their bits 63; the third slice is that of their own balance entries.
 #[test]
 fn entries_that_do_not_rise() {
     let mut random = SplitMix64::new(6040);
     for (n, step) in [(2, 1), (5, 1), (64, 1), (70, 1), (300, 1), (1024, 3)] {
         for rank in (1..n).step_by(step) {
-            let list = rising(n, &mut random);
-            let (mut falls, mut stays) = (list.clone(), list);
+            let list = rising(n, 8, &mut random);
+            let (mut falls, mut stays, mut ties) = (list.clone(), list.clone(), list);
             falls.swap(rank - 1, rank);
             stays[rank] = stays[rank - 1];
+            // With the bit these two entries rise.
+            ties[rank - 1] &= !TIED;
+            ties[rank] = ties[rank - 1] | TIED;
             let m = n + random.below(n);
-            for list in [falls, stays] {
+            for list in [falls, stays, ties] {
                 let store = Store::of_size(&list, m, &mut random);
                 assert_eq!(all_calls(6040, &store), REFUSED_11, "N {n} M {m} rank {rank}");
             }
+        }
+    }
+}
+
+/// Zero without bit 63 at rank 0: a plain sheet, and no timed one.
+#[test]
+fn entries_without_a_key() {
+    let mut random = SplitMix64::new(6045);
+    for n in [1, 2, 5, 64, 70, 300, 1024] {
+        for m in [n, n + random.below(n), 2 * n - 1] {
+            let mut list = rising(n, 8, &mut random);
+            list[0] = TIED;
+            let store = Store::of_size(&list, m, &mut random);
+            assert_eq!(all_calls(6045, &store), REFUSED_11, "N {n} M {m}");
+            let plain = agreement::Store { slots: store.slots, counts: store.counts };
+            assert_eq!(Both::new(6045, plain).call(agreement::Call::Check), [0, n as u64, 0, 0], "N {n} M {m}");
         }
     }
 }
@@ -156,35 +178,43 @@ fn entries_that_do_not_rise() {
 fn order_of_causes() {
     let full = sheet(6050, 1024);
     let there = full.entries().nth(500).unwrap();
-    let insert = |store: &Store, entry| Both::new(6050, store.clone()).call(Call::Insert { entry, tape: vec![] });
+    let causes = |store: &Store, there: u64| {
+        [0, TIED, there, there ^ TIED, LOWEST].map(|entry| {
+            let mut both = Both::new(6050, store.clone());
+            let returned = both.call(Call::Insert { entry, tape: vec![] });
+            assert_eq!(returned[1..], [0; 3]);
+            returned[0]
+        })
+    };
     let find = |store: &Store, entry| Both::new(6050, store.clone()).call(Call::Find { entry });
-    assert_eq!([0, there, LOWEST].map(|entry| insert(&full, entry)), [[3, 0, 0], [10, 0, 0], [5, 0, 0]]);
-    assert_eq!(find(&full, 0), [3, 0, 0]);
+    assert_eq!(causes(&full, there), [3, 3, 10, 10, 5]);
+    assert_eq!([0, TIED].map(|entry| find(&full, entry)), [[3, 0, 0, 0]; 2]);
     let some = sheet(6051, 100);
-    let there = some.entries().last().unwrap();
-    assert_eq!([0, there, LOWEST].map(|entry| insert(&some, entry)), [[3, 0, 0], [10, 0, 0], [7, 0, 0]]);
+    assert_eq!(causes(&some, some.entries().last().unwrap()), [3, 3, 10, 10, 7]);
     let mut store = full;
     store.balance[255] = 1;
-    assert_eq!([0, there, LOWEST].map(|entry| insert(&store, entry)), [[11, 0, 0]; 3]);
-    assert_eq!(find(&store, 0), [11, 0, 0]);
+    assert_eq!(causes(&store, there), [11; 5]);
+    assert_eq!(find(&store, 0), [11, 0, 0, 0]);
     store.counts[200] += 1;
-    assert_eq!([0, there, LOWEST].map(|entry| insert(&store, entry)), [[2, 0, 0]; 3]);
-    assert_eq!(find(&store, 0), [2, 0, 0]);
+    assert_eq!(causes(&store, there), [2; 5]);
+    assert_eq!(find(&store, 0), [2, 0, 0, 0]);
     store.balance.pop();
-    assert_eq!([0, there, LOWEST].map(|entry| insert(&store, entry)), [[1, 0, 0]; 3]);
-    assert_eq!(find(&store, 0), [1, 0, 0]);
+    assert_eq!(causes(&store, there), [1; 5]);
+    assert_eq!(find(&store, 0), [1, 0, 0, 0]);
 }
 
-/// Every entry of a sheet, full or not, and entry zero.
+/// Every entry of a sheet, full or not, with its bit 63 and with the other one;
+/// and zero.
 #[test]
 fn entries_that_are_there() {
     for (seed, n) in [(6061, 1), (6062, 64), (6063, 100), (6064, 1024)] {
         let before = sheet(seed, n);
         let mut both = Both::new(seed, before.clone());
+        let mut insert = |entry| both.call(Call::Insert { entry, tape: vec![1; 2048] });
         for entry in before.entries() {
-            assert_eq!(both.call(Call::Insert { entry, tape: vec![1; 2048] }), [10, 0, 0], "N {n}");
+            assert_eq!([entry, entry ^ TIED].map(&mut insert), [[10, 0, 0, 0]; 2], "N {n}");
         }
-        assert_eq!(both.call(Call::Insert { entry: 0, tape: vec![1; 2048] }), [3, 0, 0], "N {n}");
+        assert_eq!([0, TIED].map(&mut insert), [[3, 0, 0, 0]; 2], "N {n}");
         assert!(both.store == before);
     }
 }
@@ -228,10 +258,10 @@ fn tapes_that_end() {
                     0 => Call::Insert { entry, tape: words[..length].to_vec() },
                     _ => Call::Delete { rank, tape: words[..length].to_vec() },
                 };
-                let [_, _, read] = Both::new(seed, before.clone()).call(made(words.len()));
+                let [_, _, read, _] = Both::new(seed, before.clone()).call(made(words.len()));
                 for length in 0..read as usize {
                     let mut both = Both::new(seed, before.clone());
-                    assert_eq!(both.call(made(length)), [7, 0, 0]);
+                    assert_eq!(both.call(made(length)), [7, 0, 0, 0]);
                     assert!(both.store == before);
                 }
             }
@@ -247,36 +277,6 @@ fn short_outputs() {
             let mut both = Both::new(6091, before.clone());
             both.call(Call::Read { first, last, output: vec![5; room] });
             assert!(both.store == before);
-        }
-    }
-}
-
-/// 255 comes before every cause, and nothing changes.
-#[test]
-fn short_answers() {
-    let sheet = sheet(6101, 100);
-    let (mut short, mut no_sheet, mut not_timed) = (sheet.clone(), sheet.clone(), sheet.clone());
-    short.balance.pop();
-    no_sheet.counts[255] = 1;
-    not_timed.balance[255] = 1;
-    for before in [sheet, short, no_sheet, not_timed] {
-        for call in [
-            Call::Clear,
-            Call::Check,
-            Call::Insert { entry: LOWEST, tape: vec![1; 2048] },
-            Call::Insert { entry: 0, tape: vec![] },
-            Call::Delete { rank: 0, tape: vec![1; 2048] },
-            Call::Find { entry: LOWEST },
-            Call::Find { entry: 0 },
-            Call::Read { first: 0, last: 0, output: vec![5; 2] },
-            Call::Place { rank: 0 },
-        ] {
-            for room in [0, 1] {
-                let mut store = before.clone();
-                let (number, answer, output) = proved_with(&call, &mut store, room);
-                assert_eq!((number, answer), (255, vec![77; room]), "{call:?}");
-                assert!(store == before && output.iter().all(|value| *value == 5), "{call:?}");
-            }
         }
     }
 }

@@ -5,6 +5,7 @@
 use agreement::shares::by_course;
 use agreement::timed::{Call, Store};
 use agreement::Lent;
+use reference::places::TIED;
 use reference::shares::{after_step, every_course, table_of, Course};
 use reference::timed_shares::{self, cleared, shares_by_calls, shares_by_courses, Table, TimedKey};
 
@@ -134,4 +135,25 @@ fn lists_with_balance_entries() {
     let mut other = forward;
     other[20] = insert(200);
     assert!(by_calls(&other) != table);
+}
+
+/// Document 02, F-3: "Layout and shares do not look at the bit." The table of the
+/// same calls without it is the same but for the bits in slots and third slice.
+#[test]
+fn shares_do_not_look_at_bit_63() {
+    let history = |bits: u64| {
+        let entries = (101..=134u64).rev().map(|entry| entry | entry << 63);
+        let inserts = entries.map(|entry| insert(entry & bits));
+        inserts.chain([insert(9 | TIED & bits), insert(9), delete(5)]).collect::<Vec<_>>()
+    };
+    let (with, without) = (by_calls(&history(u64::MAX)), by_calls(&history(!TIED)));
+    assert!(with == shares_by_calls(&history(u64::MAX)));
+    assert!(with != without);
+    let bare = with.into_iter().map(|(sheet, share)| {
+        let mut store = sheet.store();
+        store.plain.slots.iter_mut().for_each(|slot| *slot &= !TIED);
+        store.balance.iter_mut().for_each(|word| *word &= !TIED);
+        (store.sheet(), share)
+    });
+    assert!(table_of(bare) == without);
 }

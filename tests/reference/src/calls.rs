@@ -2,6 +2,7 @@
 
 use crate::coins::{Source, Tape};
 use crate::layout::{sheet_in, Counts, Node, Shape, Sheet, Slots, ROOT};
+use crate::places::{bears_tied, standing, Standing};
 use crate::rules::{plan, Change, Plan};
 use crate::sizes::MAX_ENTRIES;
 
@@ -14,9 +15,10 @@ pub enum Cause {
     /// Not a sheet by the rules.
     NotASheet = 2,
     /// 02, F-1: "the sheet does not rise or the third slice is wrong, placed
-    /// straight after 2".
+    /// straight after 2". By F-3 also an entry on the sheet that is zero without
+    /// bit 63.
     NotTimed = 11,
-    /// Entry zero.
+    /// Entry zero; on a timed sheet zero without bit 63.
     EntryZero = 3,
     /// 02, F-1: "the entry is already there", "after 3".
     Present = 10,
@@ -49,8 +51,9 @@ pub enum Answer {
     Changed { n: usize, words: usize },
     /// Read: the number of entries.
     Read { entries: usize },
-    /// Place of a rank: the place and its points.
-    Placed { place: usize, points: usize },
+    /// Place of a rank: the place, the sum of places and the number of boats of
+    /// its tied group.
+    Placed { place: usize, sum: usize, t: usize },
     /// Check: N.
     Checked { n: usize },
     /// A conversion of the order of the counts: M.
@@ -72,17 +75,18 @@ impl Answer {
         }
     }
 
-    /// The values returned beside the number; zeros where there are none.
-    pub const fn values(self) -> [usize; 2] {
+    /// The values returned beside the number; zeros where there are none. Only
+    /// place has a third one.
+    pub const fn values(self) -> [usize; 3] {
         match self {
-            Answer::Cleared | Answer::Refused(_) => [0, 0],
-            Answer::Changed { n, words } => [n, words],
-            Answer::Read { entries } => [entries, 0],
-            Answer::Placed { place, points } => [place, points],
-            Answer::Checked { n } => [n, 0],
-            Answer::Converted { m } => [m, 0],
-            Answer::Found { rank } => [1, rank],
-            Answer::Absent { rank } => [0, rank],
+            Answer::Cleared | Answer::Refused(_) => [0, 0, 0],
+            Answer::Changed { n, words } => [n, words, 0],
+            Answer::Read { entries } => [entries, 0, 0],
+            Answer::Placed { place, sum, t } => [place, sum, t],
+            Answer::Checked { n } => [n, 0, 0],
+            Answer::Converted { m } => [m, 0, 0],
+            Answer::Found { rank } => [1, rank, 0],
+            Answer::Absent { rank } => [0, rank, 0],
         }
     }
 }
@@ -167,21 +171,20 @@ fn read_entries(
     Ok(Answer::Read { entries })
 }
 
-/// "Rank i has place i + 1 and as many points as its place."
+/// Place of a rank, by its tied group (02, F-3).
 pub fn place(slots: &[u64], counts: &[u16], rank: usize) -> Answer {
-    let place_of_rank = |sheet: Sheet| {
-        if rank >= sheet.n {
-            return Err(Cause::Rank);
-        }
-        Ok(Answer::Placed {
-            place: rank + 1,
-            points: rank + 1,
-        })
-    };
-    lent(slots, counts)
-        .and_then(|(slots, counts)| checked(slots, counts))
-        .and_then(place_of_rank)
-        .into()
+    place_of_rank(slots, counts, rank).into()
+}
+
+fn place_of_rank(slots: &[u64], counts: &[u16], rank: usize) -> Result<Answer, Cause> {
+    let (slots, counts) = lent(slots, counts)?;
+    let sheet = checked(slots, counts)?;
+    if rank >= sheet.n {
+        return Err(Cause::Rank);
+    }
+    let list = list(&sheet, slots, counts);
+    let Standing { place, sum, t } = standing(sheet.n, rank, |rank| bears_tied(list[rank]));
+    Ok(Answer::Placed { place, sum, t })
 }
 
 /// Whether the store is a sheet, and its length.
@@ -285,6 +288,13 @@ fn lent_mut<'a>(
 /// The sheet in the store, or cause 2.
 pub(crate) fn checked(slots: &Slots, counts: &Counts) -> Result<Sheet, Cause> {
     sheet_in(slots, counts).ok_or(Cause::NotASheet)
+}
+
+/// The entries of a sheet in their order.
+pub(crate) fn list(sheet: &Sheet, slots: &Slots, counts: &Counts) -> Vec<u64> {
+    let mut list = vec![0; sheet.n];
+    sheet.shape.gather(Node::ROOT, slots, counts, &mut list);
+    list
 }
 
 /// The length that the counts of a sheet tell: the root stands at 1 in any tree.

@@ -1,4 +1,4 @@
-//! The lines of the program (01, "Frames").
+//! The lines of the program (01, "Frames"; 02, F-3).
 
 use crate::calls::{self, Answer, Cause};
 use crate::layout::{Counts, Node, Shape, Slots, COUNTS, SIZE, SLOTS};
@@ -197,9 +197,11 @@ pub fn step(
     );
     match answer {
         Answer::Read { entries: n } => entries[..n].iter().for_each(|&entry| put(out, entry, 8)),
-        Answer::Placed { place, points } => {
+        // 02, F-3: "Frame 87 carries place (2 bytes), sum (4) and t (2)."
+        Answer::Placed { place, sum, t } => {
             put(out, place as u64, 2);
-            put(out, points as u64, 2);
+            put(out, sum as u64, 4);
+            put(out, t as u64, 2);
         }
         _ => {}
     }

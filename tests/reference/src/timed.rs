@@ -1,10 +1,11 @@
-//! Timed sheets (02, F-1): a sheet whose entries rise strictly, with a third slice
-//! that holds the balance entries. Rules, layout and coins are those of a plain
-//! sheet: each call here rests on the call of [`calls`].
+//! Timed sheets (02, F-1, F-3): a sheet whose entries rise strictly, with a third
+//! slice that holds the balance entries as they stand. Rules, layout and coins are
+//! those of a plain sheet: each call here rests on the call of [`calls`].
 
-use crate::calls::{self, Answer, Cause};
+use crate::calls::{self, list, Answer, Cause};
 use crate::coins::{Source, Tape};
 use crate::layout::{Counts, Node, Sheet, Slots};
+use crate::places::TIED;
 use std::cmp::Ordering;
 
 /// 02, F-1: "A third slice of 256 64-bit words".
@@ -12,9 +13,9 @@ pub const BALANCE: usize = 256;
 
 pub type Balance = [u64; BALANCE];
 
-/// What the entries of a timed sheet are compared by.
+/// 02, F-3: "Timed sheets compare entries without the bit", bit 63.
 pub const fn key(entry: u64) -> u64 {
-    entry
+    entry & !TIED
 }
 
 /// Clear can meet only cause 1, and makes any contents the empty timed sheet.
@@ -30,7 +31,7 @@ pub fn clear(slots: &mut [u64], counts: &mut [u16], balance: &mut [u64]) -> Answ
 }
 
 /// Inserts an entry, with coins from the start of `tape`. Its rank follows from
-/// it: the number of entries below.
+/// its key: the number of entries below.
 pub fn insert(
     slots: &mut [u64],
     counts: &mut [u16],
@@ -79,7 +80,7 @@ pub fn read(
         .into()
 }
 
-/// The place of a rank and its points.
+/// Place of a rank, by its tied group.
 pub fn place(slots: &[u64], counts: &[u16], balance: &[u64], rank: usize) -> Answer {
     open(slots, counts, balance)
         .map(|_| calls::place(slots, counts, rank))
@@ -147,8 +148,9 @@ fn open<'a>(slots: &'a [u64], counts: &'a [u16], balance: &'a [u64]) -> Result<T
     let (slots, counts) = calls::lent(slots, counts)?;
     let sheet = calls::checked(slots, counts)?;
     let list = list(&sheet, slots, counts);
+    let none_is_zero = list.iter().all(|&entry| key(entry) != 0);
     let rises = list.windows(2).all(|pair| key(pair[0]) < key(pair[1]));
-    if !rises || *balance != third_slice(&sheet, counts, &list) {
+    if !none_is_zero || !rises || *balance != third_slice(&sheet, counts, &list) {
         return Err(Cause::NotTimed);
     }
     Ok(Timed {
@@ -157,13 +159,6 @@ fn open<'a>(slots: &'a [u64], counts: &'a [u16], balance: &'a [u64]) -> Result<T
         counts,
         balance,
     })
-}
-
-/// The entries of a sheet in their order.
-fn list(sheet: &Sheet, slots: &Slots, counts: &Counts) -> Vec<u64> {
-    let mut list = vec![0; sheet.n];
-    sheet.shape.gather(Node::ROOT, slots, counts, &mut list);
-    list
 }
 
 /// 02, F-1: the third slice "holds at the number of each range above the leaves
@@ -182,17 +177,18 @@ fn third_slice(sheet: &Sheet, counts: &Counts, list: &[u64]) -> Balance {
     balance
 }
 
-/// The entry, or cause 3.
+/// The entry, or cause 3. 02, F-3: "there an entry must be other than zero
+/// without it: cause 3 where it is given, 11 where it stands on the sheet."
 fn given(entry: u64) -> Result<u64, Cause> {
-    match entry {
+    match key(entry) {
         0 => Err(Cause::EntryZero),
         _ => Ok(entry),
     }
 }
 
 impl Timed<'_> {
-    /// The rank of the entry, or, as an error, the rank at which it would stand:
-    /// the number of entries below it.
+    /// The rank of the entry with this key, or, as an error, the rank at which it
+    /// would stand: the number of entries below it.
     fn search(&self, entry: u64) -> Result<usize, usize> {
         let (leaf, mut rank) = self.leaf_of(entry);
         for slot in self.sheet.shape.entry_slots(leaf, self.counts) {

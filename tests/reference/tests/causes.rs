@@ -24,7 +24,7 @@ fn all_calls(slots: &mut [u64], counts: &mut [u16], rank: usize, entry: u64) -> 
     ];
     for answer in answers {
         if answer.number() != 0 {
-            assert_eq!(answer.values(), [0, 0]);
+            assert_eq!(answer.values(), [0, 0, 0]);
         }
     }
     assert_eq!(output, [0x55; 2]);
@@ -173,15 +173,16 @@ fn accepted_answers() {
     let mut store = sheet_of(70, &mut SplitMix64::new(7));
     let (slots, counts) = (&mut store.slots[..], &mut store.counts[..]);
     let check = calls::check(slots, counts);
-    assert_eq!((check.number(), check.values()), (0, [70, 0]));
+    assert_eq!((check.number(), check.values()), (0, [70, 0, 0]));
     for rank in 0..70 {
         let place = calls::place(slots, counts, rank);
-        assert_eq!((place.number(), place.values()), (0, [rank + 1, rank + 1]));
+        let values = [rank + 1, rank + 1, 1];
+        assert_eq!((place.number(), place.values()), (0, values));
     }
     let read = calls::read(slots, counts, 3, 5, &mut [0; 3]);
-    assert_eq!((read.number(), read.values()), (0, [3, 0]));
+    assert_eq!((read.number(), read.values()), (0, [3, 0, 0]));
     let clear = calls::clear(slots, counts);
-    assert_eq!((clear.number(), clear.values()), (0, [0, 0]));
+    assert_eq!((clear.number(), clear.values()), (0, [0, 0, 0]));
     assert_eq!(store, Store::cleared());
 }
 

@@ -78,7 +78,7 @@ fn refused_conversions() {
         for convert in [to_tree_order, to_number_order] {
             let answer = convert(&mut counts);
             assert_eq!(answer, Answer::Refused(cause));
-            assert_eq!((answer.number(), answer.values()), (cause as u8, [0, 0]));
+            assert_eq!((answer.number(), answer.values()), (cause as u8, [0, 0, 0]));
             assert_eq!(counts, before);
         }
     }
@@ -90,7 +90,7 @@ fn values_of_a_conversion() {
     counts[0] = 1500;
     for convert in [to_tree_order, to_number_order] {
         let answer = convert(&mut counts);
-        assert_eq!((answer.number(), answer.values()), (0, [1500, 0]));
+        assert_eq!((answer.number(), answer.values()), (0, [1500, 0, 0]));
     }
 }
 
@@ -181,10 +181,10 @@ fn readings_give_what_they_gave() {
             let last = first + random.below(n - first);
             let mut output = vec![0; last - first + 1];
             let answer = calls::read(slots, counts, first, last, &mut output);
-            assert_eq!(answer.values(), [output.len(), 0]);
+            assert_eq!(answer.values(), [output.len(), 0, 0]);
             assert_eq!(output, list[first..=last]);
             let place = calls::place(slots, counts, first);
-            assert_eq!(place.values(), [first + 1, first + 1]);
+            assert_eq!(place.values(), values_by_pairs(&list, first));
         }
     }
 }

@@ -1,9 +1,10 @@
-//! The program (01, "Frames"), by steps and as it runs.
+//! The program (01, "Frames"; 02, F-3), by steps and as it runs.
 
 mod common;
 
 use common::*;
 use reference::frames::{frame_kind, run, Program, NO_FRAME};
+use reference::places::TIED;
 use reference::random::SplitMix64;
 use reference::shares::Store;
 use std::io::{BufReader, Write};
@@ -171,7 +172,7 @@ fn causes_of_the_calls() {
         "83000001000000000000000A\n"
     );
     assert_eq!(step(&mut program, "0300010000"), "83040001\n");
-    assert_eq!(step(&mut program, "070000"), "8700000100010001\n");
+    assert_eq!(step(&mut program, "070000"), "870000010001000000010001\n");
     assert_eq!(step(&mut program, "070001"), "87040001\n");
     assert_eq!(step(&mut program, "020000"), "82000000\n");
     assert_eq!(step(&mut program, "05"), "85000000\n9000000000\n");
@@ -207,13 +208,13 @@ fn refused_calls_read_no_words() {
     assert_eq!(program.waiting(), [0]);
 }
 
-/// A program that holds the list 1 to `n`.
-fn program_of(n: u64) -> Program {
+/// A program that holds the list 1 to `n`, each entry with this bit or none.
+fn program_of(n: u64, bit: u64) -> Program {
     let mut program = Program::new();
     for entry in 1..=n {
         let rank = entry - 1;
         loop {
-            let answer = step(&mut program, format!("01{rank:04X}{entry:016X}"));
+            let answer = step(&mut program, format!("01{rank:04X}{:016X}", entry | bit));
             if answer == format!("8100{entry:04X}\n") {
                 break;
             }
@@ -226,7 +227,7 @@ fn program_of(n: u64) -> Program {
 
 #[test]
 fn reads_of_more_than_64_entries() {
-    let mut program = program_of(100);
+    let mut program = program_of(100, 0);
     let entries: String = (1..=64).map(|entry| format!("{entry:016X}")).collect();
     assert_eq!(
         step(&mut program, "030000003F"),
@@ -241,11 +242,45 @@ fn reads_of_more_than_64_entries() {
     assert_eq!(step(&mut program, "0300630000"), "83040064\n");
 }
 
+/// The answers to 07 for each rank of the program's list.
+fn places(program: &mut Program, n: usize) -> Vec<String> {
+    let lines = (0..n).map(|rank| format!("07{rank:04X}"));
+    lines.map(|line| step(program, line)).collect()
+}
+
+/// 02, F-3: "Frame 87 carries place (2 bytes), sum (4) and t (2)." B and C tied
+/// with A, E with D; at rank 0 the bit has no effect.
+#[test]
+fn places_of_tied_boats() {
+    let mut program = Program::new();
+    step(&mut program, tape_line(&[12345; 16]));
+    let entries = [TIED + 0xA, TIED + 0xB, TIED + 0xC, 0xD, TIED + 0xE];
+    for (rank, entry) in entries.into_iter().enumerate() {
+        let answer = step(&mut program, format!("01{rank:04X}{entry:016X}"));
+        assert_eq!(answer, format!("8100{:04X}\n", rank + 1));
+    }
+    let first = "870000050001000000060003\n";
+    let second = "870000050004000000090002\n";
+    let expected = [first, first, first, second, second];
+    assert_eq!(places(&mut program, 5), expected);
+    assert_eq!(step(&mut program, "070005"), "87040005\n");
+}
+
+/// The sum 524,800 takes more than 2 bytes, and t = 1,024 more than one.
+#[test]
+fn places_of_1024_tied_boats() {
+    let mut program = program_of(1024, TIED);
+    let expected = "870004000001000802000400\n";
+    assert!(places(&mut program, 1024)
+        .iter()
+        .all(|answer| answer == expected));
+}
+
 /// The printed lines tell the whole sheet.
 #[test]
 fn print_tells_every_leaf() {
     for n in [1, 2, 20, 64, 65, 100, 400] {
-        let mut program = program_of(n);
+        let mut program = program_of(n, 0);
         let printed = step(&mut program, "05");
         let mut lines = printed.lines();
         assert_eq!(lines.next(), Some(format!("8500{n:04X}").as_str()));
@@ -278,7 +313,8 @@ fn random_lines_and_calls_agree() {
         let n = n(&store);
         match random.below(9) {
             0..=2 => {
-                let (rank, entry) = (random.below(n + 2), random.next_u64() % 50);
+                let rank = random.below(n + 2);
+                let entry = random.next_u64() % 50 | random.next_u64() << 63;
                 let answer = insert(&mut store, rank, entry, &waiting);
                 let line = format!("01{rank:04X}{entry:016X}");
                 agree(&mut program, &line, answer, &store, &mut waiting);

@@ -1,4 +1,4 @@
-//! Timed sheets (02, F-1): the third slice, find, causes 10 and 11 and their
+//! Timed sheets (02, F-1, F-3): the third slice, find, causes 10 and 11 and their
 //! places among the others, and that a refused call changes nothing.
 
 mod common;
@@ -6,6 +6,7 @@ mod common;
 use common::*;
 use reference::calls::{Answer, Cause};
 use reference::layout::{COUNTS, SLOTS};
+use reference::places::TIED;
 use reference::random::SplitMix64;
 use reference::timed::{self, balance_entries, BALANCE};
 use reference::timed_shares::Store;
@@ -53,7 +54,7 @@ fn all_calls(
     assert_eq!(output, [0x55; 2]);
     let clear = timed::clear(slots, counts, balance);
     for answer in answers.into_iter().chain([clear]) {
-        assert!(answer.number() == 0 || answer.values() == [0, 0]);
+        assert!(answer.number() == 0 || answer.values() == [0, 0, 0]);
     }
     let [a, b, c, d, e, f] = answers.map(Answer::number);
     [a, b, c, d, e, f, clear.number()]
@@ -188,26 +189,30 @@ fn find_balance_entries() {
 #[test]
 fn values_of_find() {
     let store = sheet_of_34();
-    assert_eq!(timed_find(&store, 20).values(), [1, 1]);
-    assert_eq!(timed_find(&store, 25).values(), [0, 2]);
-    assert_eq!(timed_find(&Store::cleared(), 25).values(), [0, 0]);
+    assert_eq!(timed_find(&store, 20).values(), [1, 1, 0]);
+    assert_eq!(timed_find(&store, 25).values(), [0, 2, 0]);
+    assert_eq!(timed_find(&Store::cleared(), 25).values(), [0, 0, 0]);
     let numbers = [20, 25].map(|entry| timed_find(&store, entry).number());
     assert_eq!(numbers, [0, 0]);
 }
 
-/// All 64 bits count: times before sail numbers, and the highest bit as any other.
+/// 63 bits count: times before sail numbers, and not bit 63.
 #[test]
-fn entries_are_compared_whole() {
+fn entries_are_compared_without_bit_63() {
     let half = 1 << 32;
-    let top = 1 << 63;
-    let list = [1, half - 1, half, half + 1, 2 * half, top - 1, top, top + 1];
-    let store = lay_out_timed(&list, 8, |_, _, _| 0);
-    for (rank, entry) in list.into_iter().enumerate() {
-        assert_eq!(timed_find(&store, entry), Answer::Found { rank });
+    let list = [1, half - 1, half, half + 1, 2 * half, TIED / 2, TIED - 2];
+    let absent = [2, half + 2, 2 * half - 1, TIED / 2 + half, TIED - 1];
+    for pattern in 0..1 << list.len() {
+        let store = lay_out_timed(&with_ties(&list, pattern), 8, |_, _, _| 0);
+        assert_eq!(timed_check(&store), Answer::Checked { n: 7 });
+        for bit in [0, TIED] {
+            for (rank, entry) in list.into_iter().enumerate() {
+                assert_eq!(timed_find(&store, entry | bit), Answer::Found { rank });
+            }
+            let ranks = absent.map(|entry| timed_find(&store, entry | bit));
+            assert_eq!(ranks, [1, 4, 4, 6, 7].map(|rank| Answer::Absent { rank }));
+        }
     }
-    let absent = [2, half + 2, 2 * half - 1, top + half, u64::MAX];
-    let ranks = absent.map(|entry| timed_find(&store, entry).values());
-    assert_eq!(ranks, [[0, 1], [0, 4], [0, 4], [0, 8], [0, 8]]);
 }
 
 /// The list that inserts in any order make rises.
@@ -391,7 +396,7 @@ fn causes_4_and_6() {
     assert_eq!(read(31, 33, &mut output), Answer::Read { entries: 3 });
     assert_eq!(output, [320, 330, 340, 0x77]);
     let place = timed::place(slots, counts, balance, 33);
-    assert_eq!(place.values(), [34, 34]);
+    assert_eq!(place.values(), [34, 34, 1]);
     assert!(store == before);
 }
 

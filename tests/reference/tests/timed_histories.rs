@@ -7,6 +7,7 @@ use common::*;
 use reference::calls::{Answer, Cause};
 use reference::coins::Tape;
 use reference::random::SplitMix64;
+use reference::timed::key;
 use reference::timed_shares::Store;
 
 /// A timed store beside the model of its sheet.
@@ -29,19 +30,20 @@ impl Pair {
         self.model.n()
     }
 
-    /// A finish: time above, sail number below; few enough that many meet.
+    /// A finish: time above, sail number below; few enough that many meet. Every
+    /// second one ties.
     fn entry(&mut self) -> u64 {
-        let time = self.random.below(500) as u64;
-        time << 32 | (1 + self.random.below(6) as u64)
+        let (time, bit) = (self.random.below(500) as u64, self.random.below(2) as u64);
+        bit << 63 | time << 32 | (1 + self.random.below(6) as u64)
     }
 
-    /// An insert, refused where the entry is there; find says which.
+    /// An insert, refused where an entry of its key is there; find says which.
     fn insert(&mut self) {
         let entry = self.entry();
         let words = words(&mut self.random, 1024);
         let list = self.model.list();
-        let rank = list.iter().filter(|&&e| e < entry).count();
-        if list.contains(&entry) {
+        let rank = list.iter().filter(|&&e| key(e) < key(entry)).count();
+        if list.iter().any(|&e| key(e) == key(entry)) {
             assert_eq!(timed_find(&self.store, entry), Answer::Found { rank });
             let answer = timed_insert(&mut self.store, entry, &words);
             assert_eq!(answer, Answer::Refused(Cause::Present));

@@ -10,7 +10,8 @@ use Rattle.call_open.specs.Opening.{admitted, OpenedSheet}
 use Rattle.call_open.specs.declared.Opened.the-variants as opened
 use Rattle.call_open.specs.AdmittedLaws.{found-sheet, found-free}
 use Rattle.call_questions.specs.AnswerLaws.{asked-refused}
-use Rattle.call_questions.specs.ReadLaws.{entries-few, size-small, counts-room, read-ranks, read-room, read-start, read-enough, read-reply}
+use Rattle.call_questions.specs.StartLaws.{entries-few, size-small, counts-room, from-start, start-enough}
+use Rattle.call_questions.specs.ReadLaws.{read-ranks, read-room, read-reply}
 use borrow.Author.Needs.{needs}
 use Rattle.call_questions.proofs.read.Statement.{statement}
 use Rattle.call_questions.proofs.read.Tie as tie
@@ -41,13 +42,13 @@ enum-known-m : tie.Need-enum-known-m
 enum-known-m c = search needs
 
 sub-count : tie.Need-sub-count
-sub-count c = let e = c .before in read-ranks (sheet e) (ready e) _ _ _ (free e) .0
+sub-count c = let e = c .before in read-ranks (sheet e) _ _ _ (free e) .0
 
 add-count : tie.Need-add-count
 add-count c =
     let e = c .before in
     let a = e .before .before .before .before .before .before .args in
-    omega (arith, read-ranks (sheet e) (ready e) (a .first) (a .last) (length (now (a .output))) (free e) .1, entries-few (sheet e) (ready e))
+    omega (arith, read-ranks (sheet e) (a .first) (a .last) (length (now (a .output))) (free e) .1, entries-few (sheet e) (ready e))
 
 start-of-requires : tie.Need-start-of-requires
 start-of-requires c κs = let e = c .before in (size-small (sheet e) (ready e), counts-room (sheet e) (ready e))
@@ -56,8 +57,8 @@ read-from-requires : tie.Need-read-from-requires
 read-from-requires c κs =
     let t = c .before in
     let e = t .before .before in (
-      read-enough (sheet e) (ready e) _ _ _ (free e) (t .start-of .ensures),
-      read-ranks (sheet e) (ready e) _ _ _ (free e) .2,
+      start-enough (sheet e) (ready e) _ (t .start-of .ensures) _ (omega arith) (read-room (sheet e) _ _ _ (free e)),
+      read-ranks (sheet e) _ _ _ (free e) .2,
     )
 
 enum-known-cause : tie.Need-enum-known-cause
@@ -72,8 +73,8 @@ returns c =
     let t = r .before .before in
     let e = t .before .before in
     let a = e .before .before .before .before .before .before .args in
-    rw (r .read-from .ensures, read-start (sheet e) (ready e) (a .first) (a .last) (length (now (a .output))) (free e) (t .start-of .ensures))
-    (read-reply _ _ _ _ _ (goes-on e) (read-room (sheet e) (ready e) _ _ _ (free e)))
+    rw (r .read-from .ensures, from-start (sheet e) (ready e) (a .first) (t .start-of .ensures))
+    (read-reply _ _ _ _ _ (goes-on e) (read-room (sheet e) _ _ _ (free e)))
 
 returns-2 : tie.Need-returns-2
 returns-2 c =

@@ -7,7 +7,7 @@ use Rattle.call_outcomes.specs.Clubs.{clubs}
 use Rattle.call_outcomes.specs.ClubsLaws.{clubs-ready}
 use Rattle.call_open.specs.Opening.{OpenedSheet}
 use Rattle.call_open.specs.AdmittedLaws.{opened-sheet}
-use Rattle.call_questions.specs.ReadLaws.{size-small}
+use Rattle.call_questions.specs.StartLaws.{size-small}
 use Rattle.timed_open.specs.OpeningLaws.{slots-room, levels-room, test-is, look-lengths, look-refused, look-not, look-timed}
 use borrow.Author.Needs.{needs}
 use Rattle.timed_open.proofs.examine.Statement.{statement}

@@ -35,8 +35,8 @@ fn main() {
     while seed == first || start.elapsed() < limit {
         let (name, targets) = [("short", SHORT), ("border", BORDER), ("full", FULL)][(seed % 3) as usize];
         println!("seed {seed}, {name}");
-        calls += histories::history(seed, LENGTH, targets).iter().sum::<u64>();
-        calls += timed_histories::history(seed, LENGTH, targets).iter().sum::<u64>();
+        calls += histories::history(seed, LENGTH, targets).calls();
+        calls += timed_histories::history(seed, LENGTH, targets).calls();
         answered += program::agrees(seed, &lines::history(seed, LENGTH, targets)).lines;
         seed += 1;
     }

@@ -5,6 +5,7 @@
 use reference::calls::{self, Answer};
 use reference::coins::{Source, Undecided};
 use reference::layout::{COUNTS, SLOTS};
+use reference::places::TIED;
 use reference::random::SplitMix64;
 use reference::shares::Store;
 use reference::timed::{self, Balance, BALANCE};
@@ -169,6 +170,33 @@ fn split_range(store: &Store, range: usize, depth: usize, list: &[u64], balance:
     balance[range] = right[0];
     split_range(store, 2 * range, depth + 1, left, balance);
     split_range(store, 2 * range + 1, depth + 1, right, balance);
+}
+
+/// The list with bit 63 in the entries whose ranks are the bits of `pattern`, and
+/// in no others.
+pub fn with_ties(list: &[u64], pattern: u64) -> Vec<u64> {
+    let ranks = list.iter().enumerate();
+    ranks
+        .map(|(rank, &entry)| entry & !TIED | (pattern >> rank & 1) << 63)
+        .collect()
+}
+
+/// Place, sum and group of a rank, pair by pair, as rule A7 has it: the points for
+/// the place for which boats have tied and for the places directly below are
+/// added together and divided equally. Two boats have tied where every boat
+/// behind the first of them, up to the other, tied with the boat before her. A
+/// boat has the place behind all boats before her that she has not tied with.
+pub fn values_by_pairs(list: &[u64], rank: usize) -> [usize; 3] {
+    let have_tied = |other: usize| {
+        let (before, behind) = (rank.min(other), rank.max(other));
+        !list[before + 1..=behind]
+            .iter()
+            .any(|&entry| entry < 1 << 63)
+    };
+    let group: Vec<usize> = (0..list.len()).filter(|&other| have_tied(other)).collect();
+    let ahead = (0..rank).filter(|&other| !have_tied(other)).count();
+    let places = group.iter().map(|other| other + 1);
+    [ahead + 1, places.sum(), group.len()]
 }
 
 /// Whether some list, size and balance entries lay out exactly this store.
@@ -448,6 +476,10 @@ pub fn check(store: &Store) -> Answer {
     calls::check(&store.slots[..], &store.counts[..])
 }
 
+pub fn place_of(store: &Store, rank: usize) -> Answer {
+    calls::place(&store.slots[..], &store.counts[..], rank)
+}
+
 pub fn m(store: &Store) -> usize {
     store.counts[0].into()
 }
@@ -487,6 +519,11 @@ pub fn timed_delete(store: &mut TimedStore, rank: usize, tape: &[u32]) -> Answer
 pub fn timed_find(store: &TimedStore, entry: u64) -> Answer {
     let TimedStore { plain, balance } = store;
     timed::find(&plain.slots[..], &plain.counts[..], &balance[..], entry)
+}
+
+pub fn timed_place(store: &TimedStore, rank: usize) -> Answer {
+    let TimedStore { plain, balance } = store;
+    timed::place(&plain.slots[..], &plain.counts[..], &balance[..], rank)
 }
 
 pub fn timed_check(store: &TimedStore) -> Answer {

@@ -9,7 +9,7 @@ use Rattle.call_outcomes.proofs.Answer.returned.Tie as tie
 
 -- What a refusal with this number returns.
 abbrev refusal : ℕ → Returned
-refusal number = record { number = number; first = 0; second = 0 }
+refusal number = record { number = number; first = 0; second = 0; third = 0 }
 
 enum-told : tie.Need-enum-told
 enum-told c = search needs

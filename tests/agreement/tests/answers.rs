@@ -1,0 +1,110 @@
+//! Answer slices of every length: too short for a call's values, as long, and
+//! longer; on sheets and on stores that a call refuses.
+
+use agreement::stores::{rising, sheet_of_size};
+use agreement::{timed, Call, Lent, Store, UNWRITTEN};
+use reference::random::SplitMix64;
+
+/// The call with answer slices of 0 to 5 elements, each on a copy of the store. Too
+/// short a slice gives 255 before every cause, and nothing changes. Else the call
+/// does what the second implementation does; its values, zeros where it is
+/// refused, stand in front, and what stands behind them stays.
+fn with_every_room<S: Lent>(before: &S, call: &S::Call) {
+    let values = S::values(call);
+    for room in 0..=5 {
+        let mut store = before.clone();
+        let (number, answer, output) = store.proved_with(call, room);
+        let mut expected_store = before.clone();
+        let (mut expected, mut expected_output) = expected_store.by_reference(call);
+        let mut expected_answer = vec![UNWRITTEN; room];
+        if room < values {
+            expected = [255, 0, 0, 0];
+            expected_store = before.clone();
+            expected_output = vec![5; expected_output.len()];
+        } else {
+            expected_answer[..values].copy_from_slice(&expected[1..=values]);
+        }
+        assert_eq!((number, answer), (expected[0], expected_answer), "{call:?}");
+        assert!(store == expected_store && output == expected_output, "{call:?}, {room} elements");
+    }
+}
+
+fn tape() -> Vec<u32> {
+    vec![1; 300]
+}
+
+/// Calls on a plain sheet of 100 entries, accepted and refused.
+fn calls() -> Vec<Call> {
+    vec![
+        Call::Clear,
+        Call::Check,
+        Call::Insert { rank: 7, entry: 3, tape: tape() },
+        Call::Insert { rank: 7, entry: 0, tape: tape() },
+        Call::Insert { rank: 101, entry: 3, tape: tape() },
+        Call::Insert { rank: 7, entry: 3, tape: vec![] },
+        Call::Delete { rank: 7, tape: tape() },
+        Call::Delete { rank: 100, tape: tape() },
+        Call::Read { first: 7, last: 8, output: vec![5; 4] },
+        Call::Read { first: 7, last: 8, output: vec![5] },
+        Call::Read { first: 8, last: 7, output: vec![5; 4] },
+        Call::Place { rank: 7 },
+        Call::Place { rank: 99 },
+        Call::Place { rank: 100 },
+        Call::ToTreeOrder,
+        Call::ToNumberOrder,
+    ]
+}
+
+#[test]
+fn plain_sheets_and_conversions() {
+    let mut random = SplitMix64::new(7000);
+    let sheet = sheet_of_size(&rising(100, 14, &mut random), 150, &mut random);
+    let (mut short, mut no_sheet, mut too_large) = (sheet.clone(), sheet.clone(), sheet.clone());
+    short.counts.pop();
+    no_sheet.counts[255] = 1;
+    too_large.counts[0] = 2048;
+    for before in [sheet, short, no_sheet, too_large, Store::unused()] {
+        for call in calls() {
+            with_every_room(&before, &call);
+        }
+    }
+}
+
+/// Calls on a timed sheet of 100 entries, accepted and refused.
+fn timed_calls(there: u64) -> Vec<timed::Call> {
+    use timed::Call;
+    vec![
+        Call::Clear,
+        Call::Check,
+        Call::Insert { entry: 3, tape: tape() },
+        Call::Insert { entry: 0, tape: tape() },
+        Call::Insert { entry: there, tape: tape() },
+        Call::Insert { entry: 3, tape: vec![] },
+        Call::Delete { rank: 7, tape: tape() },
+        Call::Delete { rank: 100, tape: tape() },
+        Call::Find { entry: there },
+        Call::Find { entry: 3 },
+        Call::Find { entry: 0 },
+        Call::Read { first: 7, last: 8, output: vec![5; 4] },
+        Call::Read { first: 7, last: 8, output: vec![5] },
+        Call::Place { rank: 7 },
+        Call::Place { rank: 99 },
+        Call::Place { rank: 100 },
+    ]
+}
+
+#[test]
+fn timed_sheets() {
+    let mut random = SplitMix64::new(7001);
+    let list = rising(100, 14, &mut random);
+    let sheet = timed::Store::of_size(&list, 150, &mut random);
+    let (mut short, mut no_sheet, mut not_timed) = (sheet.clone(), sheet.clone(), sheet.clone());
+    short.balance.pop();
+    no_sheet.counts[255] = 1;
+    not_timed.balance[255] = 1;
+    for before in [sheet, short, no_sheet, not_timed, timed::Store::unused()] {
+        for call in timed_calls(list[50]) {
+            with_every_room(&before, &call);
+        }
+    }
+}
