@@ -1,8 +1,8 @@
--- A read of a plain sheet: its ranks are there, and the entries read are the reply.
+-- A read of a plain sheet: its entries are there, and those read are the reply.
 use mathlib.Core.Path.{_≡_}
 use mathlib.Core.List.{List, _++_}
 use mathlib.Core.Option.{none}
-use Prim.Native.Nat.{ℕ, _+_, _-_, _≤_, _<_}
+use Prim.Native.Nat.{ℕ, _+_, _-_, _≤_}
 use native.Mathlib.Omega.{arith}
 use lib.ListN.{length, take, drop, length-drop}
 use lib.Seq.{length-take-le}
@@ -17,14 +17,11 @@ use Rattle.call_open.specs.Opening.{admitted, OpenedSheet}
 use Rattle.call_questions.specs.Asked.{askedBy, asked}
 use Rattle.call_questions.specs.StartLaws.{entries-number}
 
-module _ {cap : Capacity} {slots counts work : List ℕ} {n m : ℕ} (w : OpenedSheet cap (storeOf slots counts) n m work)
-    (first last room : ℕ) (free : questionCause (readRanks first last room) n ≡ none) where
-  pub read-ranks : (first ≤ last) × (last < n) × (last - first + 1 ≤ room)
-  read-ranks = read-within first last room n free
-
-  -- the entries that can be read are there
-  pub read-room : first + (last - first + 1) ≤ length (nonzero slots)
-  read-room = omega (arith, entries-number w, read-ranks .0, read-ranks .1)
+-- The entries that can be read are there.
+pub read-room : {cap : Capacity} {slots counts work : List ℕ} {n m : ℕ} (w : OpenedSheet cap (storeOf slots counts) n m work)
+    (first last room : ℕ) (free : questionCause (readRanks first last room) n ≡ none) → first + (last - first + 1) ≤ length (nonzero slots)
+read-room {n = n} w first last room free =
+    let within = read-within first last room n free in omega (arith, entries-number w, within .0, within .1)
 
 -- The entries read are the reply.
 pub read-reply : (found : Opened) (first last : ℕ) (list output : List ℕ) {n m : ℕ}

@@ -43,16 +43,15 @@ module _ {tied : ℕ → Bool} {i k : ℕ} (w : FirstBefore tied i k) where
   unfolding groupFirst
   back-zero none = sym (w .same ∙ rw none refl)
 
-pub end-next : {tied : ℕ → Bool} {N i : ℕ} → i < N → EndFrom tied N i (i + 1)
+pub end-next : {tied : ℕ → Bool} {N i : ℕ} → EndFrom tied N i (i + 1)
 unfolding groupEnd
-end-next {i = i} below = record { most = omega arith; end = rw (add-one i) refl }
+end-next {i = i} = record { end = rw (add-one i) refl }
 
 module _ {tied : ℕ → Bool} {N i k : ℕ} (w : EndFrom tied N i k) where
   pub end-tied : tied k ≡ true → k < N → EndFrom tied N i (k + 1)
   end-tied is more =
       let left : N - k ≡ suc (N - (k + 1)) = omega arith in
       record {
-        most = omega arith;
         end = rw (add-one k)
             (w .end ∙ omega (arith, ap (λ (n : ℕ). tiedFrom tied n k) left, from-tied tied (N - (k + 1)) k is, ap (λ (n : ℕ). tiedFrom tied (N - n) (suc k)) (add-one k)));
       }

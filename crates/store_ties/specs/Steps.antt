@@ -18,5 +18,4 @@ pub record FirstBefore (tied : ℕ → Bool) (i k : ℕ) : Type 0 where
 
 -- The group of rank i ends behind the boats from rank k on that tied, one after the other, with the boat before them.
 pub record EndFrom (tied : ℕ → Bool) (N i k : ℕ) : Type 0 where
-  pub most : k ≤ N
   pub end : groupEnd tied N i ≡ k + tiedFrom tied (N - k) k

@@ -1,7 +1,7 @@
 // Boats tied at the line: the tied group of an entry, found in the slots beside it.
 ghost use mathlib.Core.Path.{_≡_};
 ghost use Prim.Native.Nat.{_+_, _^_, _<_};
-ghost use lib.ListN.{length};
+ghost use lib.ListN.{length, drop};
 ghost use Rattle.store_layout.specs.Leaf.{nonzero};
 ghost use Rattle.store_ties.specs.Groups.{groupFirst, groupEnd, placing};
 ghost use Rattle.store_ties.specs.Ties.{tieBit, tiedIn, placingIn};
@@ -41,10 +41,11 @@ fn group_first(slots: &[u64], end: usize, rank: usize) -> usize
     0
 }
 
-// The rank behind the last boat in the group of the rank, which is that of the last entry in the slots before `start`; there are n entries.
+// The rank behind the last boat in the group of the rank; the entries behind it stand in the slots from `start` on, and there are n entries.
 fn group_end(slots: &[u64], start: usize, rank: usize, n: usize) -> usize
-    requires before { ⌜ Before (now slots) start (rank + 1) ⌝ }
+    requires below { ⌜ rank < n ⌝ }
     requires number { ⌜ n ≡ length (nonzero (now slots)) ⌝ }
+    requires rest { ⌜ drop (rank + 1) (nonzero (now slots)) ≡ nonzero (drop start (now slots)) ⌝ }
     ensures { λ r. ⌜ r ≡ groupEnd (tiedIn (nonzero (now (slots .entry)))) n rank ⌝ }
 {
     let mut at = start;

@@ -1,17 +1,19 @@
 -- `read` meets its contract.
 use mathlib.Core.Path.{_≡_, sym, _∙_}
 use mathlib.Core.Option.{none}
+use Prim.Native.Nat.{_+_, _-_, _≤_, _<_}
 use native.Mathlib.Omega.{arith}
 use denote.Ref.{now}
 use lib.ListN.{length}
 use Rattle.store_layout.specs.Room.{CapacityReady}
 use Rattle.call_outcomes.specs.Plain.{readRanks, questionCause, storeOf}
+use Rattle.call_outcomes.specs.PlainLaws.{read-within}
 use Rattle.call_open.specs.Opening.{admitted, OpenedSheet}
 use Rattle.call_open.specs.declared.Opened.the-variants as opened
 use Rattle.call_open.specs.AdmittedLaws.{found-sheet, found-free}
 use Rattle.call_questions.specs.AnswerLaws.{asked-refused}
 use Rattle.call_questions.specs.StartLaws.{entries-few, size-small, counts-room, from-start, start-enough}
-use Rattle.call_questions.specs.ReadLaws.{read-ranks, read-room, read-reply}
+use Rattle.call_questions.specs.ReadLaws.{read-room, read-reply}
 use borrow.Author.Needs.{needs}
 use Rattle.call_questions.proofs.read.Statement.{statement}
 use Rattle.call_questions.proofs.read.Tie as tie
@@ -32,6 +34,14 @@ free : (c : tie.After-m)
     questionCause (readRanks (a .first) (a .last) (length (now (a .output)))) (c .m .given .0 .0) ≡ none
 free c = found-free _ _ (goes-on c)
 
+-- Its ranks are there, and the output has room for their entries.
+within : (c : tie.After-m)
+    → let a = c .before .before .before .before .before .before .args in
+    (a .first ≤ a .last) × (a .last < c .m .given .0 .0) × (a .last - a .first + 1 ≤ length (now (a .output)))
+within c =
+    let a = c .before .before .before .before .before .before .args in
+    read-within (a .first) (a .last) (length (now (a .output))) (c .m .given .0 .0) (free c)
+
 ready : (c : tie.After-m) → CapacityReady (c .before .before .before .before .before .before .pre .cap)
 ready c = c .before .before .before .before .before .before .pre .ready
 
@@ -42,13 +52,12 @@ enum-known-m : tie.Need-enum-known-m
 enum-known-m c = search needs
 
 sub-count : tie.Need-sub-count
-sub-count c = let e = c .before in read-ranks (sheet e) _ _ _ (free e) .0
+sub-count c = let e = c .before in within e .0
 
 add-count : tie.Need-add-count
 add-count c =
     let e = c .before in
-    let a = e .before .before .before .before .before .before .args in
-    omega (arith, read-ranks (sheet e) (a .first) (a .last) (length (now (a .output))) (free e) .1, entries-few (sheet e) (ready e))
+    omega (arith, within e .1, entries-few (sheet e) (ready e))
 
 start-of-requires : tie.Need-start-of-requires
 start-of-requires c κs = let e = c .before in (size-small (sheet e) (ready e), counts-room (sheet e) (ready e))
@@ -58,7 +67,7 @@ read-from-requires c κs =
     let t = c .before in
     let e = t .before .before in (
       start-enough (sheet e) (ready e) _ (t .start-of .ensures) _ (omega arith) (read-room (sheet e) _ _ _ (free e)),
-      read-ranks (sheet e) _ _ _ (free e) .2,
+      within e .2,
     )
 
 enum-known-cause : tie.Need-enum-known-cause

@@ -1,83 +1,81 @@
--- `group_end` meets its contract. The loop's invariant: the slots before `at` hold `end` entries, and the group of the rank ends behind those
--- from this rank on that tied, one after the other, with the boat before them.
+-- `group_end` meets its contract. The loop's invariant: the entries behind the first `end` are those of the slots from `at` on, and the group of
+-- the rank ends behind those from rank `end` on that tied, one after the other, with the boat before them.
 use mathlib.Core.Path.{_≡_, sym, _∙_, ap}
-use Prim.Native.Nat.{_-_, _<_}
+use Prim.Native.Nat.{_-_}
 use native.Mathlib.Omega.{arith}
 use borrow.Author.Needs.{needs}
 use borrow.Author.Tests.{not-true, not-false}
 use denote.Ref.{now}
-use lib.ListN.{getD, length}
+use lib.ListN.{length, drop}
 use Rattle.store_layout.specs.Leaf.{nonzero}
+use Rattle.store_slices.specs.ReadLaws.{Slot, slot-read}
 use Rattle.store_ties.specs.Ties.{tieBit, tiedIn}
-use Rattle.store_ties.specs.Steps.{Before, EndFrom}
-use Rattle.store_ties.specs.BeforeLaws.{before-most, slot-inside, before-empty, before-entry, entry-held}
+use Rattle.store_ties.specs.Steps.{EndFrom}
 use Rattle.store_ties.specs.StepLaws.{end-next, end-tied, end-untied, end-all}
 use Rattle.store_ties.proofs.group_end.Statement.{statement}
 use Rattle.store_ties.proofs.group_end.Tie as tie
 
 abbrev Inv-loop : tie.InvT-loop
-Inv-loop slots start rank n at₀ end₀ at end = Before slots at end × EndFrom (tiedIn (nonzero slots)) n rank end
+Inv-loop slots start rank n at₀ end₀ at end = (drop end (nonzero slots) ≡ nonzero (drop at slots)) × EndFrom (tiedIn (nonzero slots)) n rank end
 
 abbrev μ-loop : tie.MeasureT-loop
 μ-loop slots start rank n at₀ end₀ at end = length slots - at
 
 add-end : tie.Need-add-end Inv-loop μ-loop
-add-end c = omega (arith, before-most (c .before .pre .0) .1, c .before .pre .0 .inside)
+add-end c = omega (arith, c .before .pre .0)
 
 loop-holds : tie.Need-loop-holds Inv-loop μ-loop
-loop-holds c = (c .before .pre .0, end-next (omega (arith, before-most (c .before .pre .0) .0, c .before .pre .1)))
+loop-holds c = (c .before .pre .1 .1, end-next)
 
--- The slot that a turn looks at is inside.
-inside : (c : tie.In-loop Inv-loop μ-loop) → c .before .loop .at < length (now (c .before .before .before .args .slots))
-inside c = slot-inside (c .before .loop .inv .0) (omega (arith, c .before .before .before .pre .1))
+-- The slot that a turn looks at.
+slot : (c : tie.In-loop Inv-loop μ-loop)
+    → let slots = now (c .before .before .before .args .slots) in
+    Slot slots (nonzero slots) (c .before .loop .end) (c .before .loop .at)
+slot c =
+    let s = c .before .before .before in
+    let h = c .before .loop in
+    slot-read (now (s .args .slots)) (nonzero (now (s .args .slots))) (h .end) (h .at) (h .inv .0) (omega (arith, s .pre .1 .0))
 
 mul-next : tie.Need-mul-next Inv-loop μ-loop
-mul-next c = omega (arith, inside c)
+mul-next c = omega (arith, slot c .inside)
 
 shared-slice-read-next : tie.Need-shared-slice-read-next Inv-loop μ-loop
-shared-slice-read-next c = inside (c .before)
+shared-slice-read-next c = slot (c .before) .inside
 
 add-at : tie.Need-add-at Inv-loop μ-loop
-add-at c = omega (arith, inside (c .before))
+add-at c = omega (arith, slot (c .before) .inside)
 
 is-tied-requires : tie.Need-is-tied-requires Inv-loop μ-loop
 is-tied-requires c κs = search needs
-
--- The slot of a turn that holds an entry holds the next one.
-next-entry : (c : tie.Then1 Inv-loop μ-loop)
-    → let h = c .before .before .before .loop in
-    let slots = now (c .before .before .before .before .before .args .slots) in
-    getD slots (h .at) 0 ≡ getD (nonzero slots) (h .end) 0
-next-entry c = entry-held (c .before .before .before .loop .inv .0) (inside (c .before .before)) (c .if1 .taken)
 
 returns : tie.Need-returns Inv-loop μ-loop
 returns c =
     let t = c .before .before in
     let k = c .before .is-tied in
-    end-untied (t .before .before .before .loop .inv .1) (ap tieBit (sym (next-entry t)) ∙ sym (k .ensures) ∙ not-true (k .result) (c .if2 .taken))
+    end-untied (t .before .before .before .loop .inv .1) (ap tieBit (sym (slot (t .before .before) .entry (t .if1 .taken))) ∙ sym (k .ensures) ∙ not-true (k .result) (c .if2 .taken))
 
 add-end-2 : tie.Need-add-end-2 Inv-loop μ-loop
 add-end-2 c = search needs
 
 loop-less : tie.Need-loop-less Inv-loop μ-loop
-loop-less c = omega (arith, inside (c .before .before .before .before))
+loop-less c = omega (arith, slot (c .before .before .before .before) .inside)
 
 loop-again : tie.Need-loop-again Inv-loop μ-loop
 loop-again c =
     let t = c .before .before in
     let k = c .before .is-tied in
     let h = t .before .before .before .loop in (
-      before-entry (h .inv .0) (inside (t .before .before)) (t .if1 .taken),
-      end-tied (h .inv .1) (ap tieBit (sym (next-entry t)) ∙ sym (k .ensures) ∙ not-false (k .result) (c .if2 .left)) (omega arith),
+      slot (t .before .before) .next (t .if1 .taken),
+      end-tied (h .inv .1) (ap tieBit (sym (slot (t .before .before) .entry (t .if1 .taken))) ∙ sym (k .ensures) ∙ not-false (k .result) (c .if2 .left)) (omega arith),
     )
 
 loop-less-2 : tie.Need-loop-less-2 Inv-loop μ-loop
-loop-less-2 c = omega (arith, inside (c .before .before))
+loop-less-2 c = omega (arith, slot (c .before .before) .inside)
 
 loop-again-2 : tie.Need-loop-again-2 Inv-loop μ-loop
 loop-again-2 c =
     let h = c .before .before .before .loop in
-    (before-empty (h .inv .0) (inside (c .before .before)) (c .if1 .left), h .inv .1)
+    (slot (c .before .before) .empty (c .if1 .left), h .inv .1)
 
 returns-2 : tie.Need-returns-2 Inv-loop μ-loop
 returns-2 c = end-all (c .before .loop .inv .1) (omega arith)

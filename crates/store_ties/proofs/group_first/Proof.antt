@@ -58,7 +58,7 @@ last-entry : (c : tie.Then1 Inv-loop μ-loop)
     → let h = c .before .before .before .loop in
     let slots = now (c .before .before .before .before .before .args .slots) in
     getD slots (h .at - 1) 0 ≡ getD (nonzero slots) (h .first - 1) 0
-last-entry c = entry-held (before-entry c) (shared-slice-read-last (c .before)) (c .if1 .taken)
+last-entry c = entry-held (before-entry c) (omega (arith, before-most (c .before .before .before .loop .inv .0) .0)) (c .if1 .taken)
 
 returns : tie.Need-returns Inv-loop μ-loop
 returns c =

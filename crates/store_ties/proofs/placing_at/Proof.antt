@@ -4,7 +4,7 @@ use borrow.Author.Needs.{needs}
 use denote.Ref.{now}
 use Rattle.store_layout.specs.Leaf.{nonzero}
 use Rattle.store_ties.specs.Ties.{tiedIn}
-use Rattle.store_ties.specs.BeforeLaws.{before-most}
+use Rattle.store_ties.specs.BeforeLaws.{before-most, rest-by-before}
 use Rattle.store_ties.specs.GroupLaws.{first-most, end-above, end-most}
 use Rattle.store_ties.specs.PlacingLaws.{placing-found}
 use Rattle.store_ties.proofs.placing_at.Statement.{statement}
@@ -14,7 +14,9 @@ group-first-requires : tie.Need-group-first-requires
 group-first-requires c κs = search needs
 
 group-end-requires : tie.Need-group-end-requires
-group-end-requires c κs = search needs
+group-end-requires c κs =
+    let s = c .before .before in
+    (omega (arith, before-most (s .pre .0) .0, s .pre .1 .0), (s .pre .1 .0, rest-by-before (s .pre .0)))
 
 shared-requires : tie.Need-shared-requires
 shared-requires c κs =
