@@ -56,7 +56,8 @@ uint8_t frame_kind(const uint8_t *line, size_t line_len);
  * whatever the store is. N in an answer is count 1 of the store after the line, 0 where there is none.
  */
 size_t frame_step(const uint8_t *line, size_t line_len, uint64_t *slots, size_t slots_len, uint16_t *counts, size_t counts_len,
-                  uint32_t *tape, size_t tape_len, uint64_t *waiting, size_t waiting_len, uint8_t *output, size_t output_len);
+                  uint16_t *tallies, size_t tallies_len, uint32_t *tape, size_t tape_len, uint64_t *waiting, size_t waiting_len,
+                  uint8_t *output, size_t output_len);
 
 #ifdef __cplusplus
 }

@@ -1,16 +1,17 @@
-/* The measured calls in C11 for any x86-64, written for speed for the store of 4,224 slots and 256 counts. c_check takes and returns what
- * sheet_check of include/sheet.h does, c_timed_check what timed_check of include/timed.h does, and so on. Nothing here is proved: the
- * benchmark compares answers and stores with the other sides.
+/* The measured calls in C11 for any x86-64, written for speed for the store of 4,224 slots, 256 counts and 256 tallies. c_check takes and
+ * returns what sheet_check of include/sheet.h does, c_timed_check what timed_check of include/timed.h does, and so on. Nothing here is proved:
+ * the benchmark compares answers and stores with the other sides.
  *
- * Most of the work of a call is the test whether the store is a sheet. It has no branch for a slot or a count: faults are joined by "or",
- * and looked at once for the counts and once for the slots. Tables say where entries and counts stand; the first call makes them, so no
- * two threads may make it at once.
+ * Most of the work of a call is the test whether the store is a sheet. It has no branch for a slot, a count or a tally: faults are joined by
+ * "or", and looked at once for the counts and the sums of tallies and once for the slots and the tallies of leaves. Tables say where entries
+ * and counts stand; the first call makes them, so no two threads may make it at once.
  *
  * Where the counts are those of a sheet, no leaf has more entries than slots, and of several leaves none is empty (document 01 asks that
  * this be shown): so the slots are looked at after the counts, and the tables have a row for every leaf that comes.
  */
 #include "timed.h"
 
+#include <emmintrin.h>
 #include <stdbool.h>
 #include <string.h>
 
@@ -139,24 +140,49 @@ static void make_tables(void)
     tables_made = true;
 }
 
-/* Whether any leaf has entries in other slots than its count says. `at` has the places of the leaves' counts, `numbers` what a count gives. */
-#define LEAVES(run)                                                                                            \
-    static uint64_t leaves_of_##run(const uint64_t *slots, const uint16_t *counts, const uint8_t *at,          \
-                                    unsigned leaves, const uint64_t *numbers)                                  \
+/* How many of so many slots hold the entry of a retired boat: bit 62 of four of them at a time. To join the slots of a leaf first, and to count
+ * only where one has retired, is no faster where none has, and slower where some have. */
+static inline __attribute__((always_inline)) unsigned retired_in(const uint64_t *slots, unsigned length)
+{
+    const __m128i one = _mm_set1_epi32(1);
+    __m128i sums = _mm_setzero_si128();
+    unsigned i = 0, retired = 0;
+    for (; i + 4 <= length; i += 4) {
+        __m128 a = _mm_loadu_ps((const float *)(slots + i)), b = _mm_loadu_ps((const float *)(slots + i + 2));
+        __m128i upper = _mm_castps_si128(_mm_shuffle_ps(a, b, _MM_SHUFFLE(3, 1, 3, 1)));
+        sums = _mm_add_epi32(sums, _mm_and_si128(_mm_srli_epi32(upper, 30), one));
+    }
+    for (; i < length; i++)
+        retired += (unsigned)(slots[i] >> 62) & 1;
+    sums = _mm_add_epi32(sums, _mm_shuffle_epi32(sums, _MM_SHUFFLE(1, 0, 3, 2)));
+    sums = _mm_add_epi32(sums, _mm_shuffle_epi32(sums, _MM_SHUFFLE(2, 3, 0, 1)));
+    return retired + (unsigned)_mm_cvtsi128_si32(sums);
+}
+
+/* Whether any leaf has entries in other slots than its count says, or as many scoring ones as its tally does not say. `at` has the places of
+ * the leaves' counts, `numbers` what a count gives. */
+#define LEAVES(name, run, tally_fault)                                                                         \
+    static uint64_t name(const uint64_t *slots, const uint16_t *counts, const uint16_t *tallies,               \
+                         const uint8_t *at, unsigned leaves, const uint64_t *numbers)                          \
     {                                                                                                          \
         uint64_t faults = 0;                                                                                   \
         for (const uint8_t *end = at + leaves; at < end; at++, slots += 3 * run) {                             \
             NUMBER_OF_LEAF(run);                                                                               \
             faults |= number ^ numbers[counts[*at]];                                                           \
+            faults |= tally_fault(run);                                                                        \
         }                                                                                                      \
         return faults;                                                                                         \
     }
 
-LEAVES(7)
-LEAVES(8)
-LEAVES(9)
-LEAVES(10)
-LEAVES(11)
+#define TALLY(run) ((counts[*at] - retired_in(slots, 3 * run)) ^ tallies[*at])
+#define NO_TALLY(run) ((void)tallies, 0)
+
+LEAVES(leaves_of_7, 7, TALLY)
+LEAVES(leaves_of_8, 8, TALLY)
+LEAVES(leaves_of_9, 9, TALLY)
+LEAVES(leaves_of_10, 10, TALLY)
+LEAVES(leaves_of_11, 11, TALLY)
+LEAVES(front_of_8, 8, NO_TALLY)
 
 /* So many slots joined, which eight divides. By a constant length and eight at once, gcc -O2 makes vectors of it. */
 #define JOIN(length)                                                          \
@@ -191,8 +217,8 @@ static uint64_t unused_slots(const uint64_t *slots, unsigned used)
     return any;
 }
 
-/* Whether a slot holds what it should not, where the counts are those of a sheet. */
-static uint64_t slot_faults(const uint64_t *slots, const uint16_t *counts, const struct size *size)
+/* Whether a slot holds what it should not, or a leaf has a wrong tally, where the counts are those of a sheet. */
+static uint64_t slot_faults(const uint64_t *slots, const uint16_t *counts, const uint16_t *tallies, const struct size *size)
 {
     /* The three leaves of the front, whose "counts" say which of the three numbers is theirs. */
     static const uint16_t front_counts[3] = {0, 1, 2};
@@ -200,19 +226,21 @@ static uint64_t slot_faults(const uint64_t *slots, const uint16_t *counts, const
     unsigned leaves = 1u << size->height;
     const uint8_t *at = size->places + leaves;
     uint64_t unused = unused_slots(slots, size->height == 0 ? FRONT : size->leaf << size->height);
-    if (size->height == 0)
-        return unused | leaves_of_8(slots, front_counts, front_at, 3, front_numbers[spread_of(size->m, counts[1]) - spreads]);
+    if (size->height == 0) {
+        const uint64_t *numbers = front_numbers[spread_of(size->m, counts[1]) - spreads];
+        return unused | front_of_8(slots, front_counts, tallies, front_at, 3, numbers) | ((counts[1] - retired_in(slots, FRONT)) ^ tallies[1]);
+    }
     const uint64_t *numbers = leaf_numbers[size->leaf / 3];
     switch (size->leaf / 3) {
-    case 7: return unused | leaves_of_7(slots, counts, at, leaves, numbers);
-    case 8: return unused | leaves_of_8(slots, counts, at, leaves, numbers);
-    case 9: return unused | leaves_of_9(slots, counts, at, leaves, numbers);
-    case 10: return unused | leaves_of_10(slots, counts, at, leaves, numbers);
-    default: return unused | leaves_of_11(slots, counts, at, leaves, numbers);
+    case 7: return unused | leaves_of_7(slots, counts, tallies, at, leaves, numbers);
+    case 8: return unused | leaves_of_8(slots, counts, tallies, at, leaves, numbers);
+    case 9: return unused | leaves_of_9(slots, counts, tallies, at, leaves, numbers);
+    case 10: return unused | leaves_of_10(slots, counts, tallies, at, leaves, numbers);
+    default: return unused | leaves_of_11(slots, counts, tallies, at, leaves, numbers);
     }
 }
 
-/* Whether any count behind those of a tree of this height is other than 0. gcc -O2 makes vectors of the inner loop. */
+/* Whether any count, or tally, behind those of a tree of this height is other than 0. gcc -O2 makes vectors of the inner loop. */
 static unsigned unused_counts(const uint16_t *counts, unsigned height)
 {
     uint16_t any = 0;
@@ -236,43 +264,56 @@ struct level {
     sums |= (unsigned)((left) + (right)) ^ (n);                                                           \
     splits |= ((left) - (right) + (level).low) | ((level).last - ((left) - (right) + (level).low))
 
-/* The ranges above the leaves of a tree of two to four levels, in Van Emde Boas order from `tree` on. */
-#define TREE_2(tree, level) SPLIT((tree)[0], (tree)[1], (tree)[2], (level)[0])
-#define TREE_3(tree, level)                                  \
-    SPLIT((tree)[0], (tree)[1], (tree)[4], (level)[0]);      \
-    TREE_2((tree) + 1, (level) + 1);                         \
-    TREE_2((tree) + 4, (level) + 1)
-#define TREE_4(tree, level)                                  \
-    TREE_2(tree, level);                                     \
-    SPLIT((tree)[1], (tree)[3], (tree)[6], (level)[1]);      \
-    SPLIT((tree)[2], (tree)[9], (tree)[12], (level)[1]);     \
-    TREE_2((tree) + 3, (level) + 2);                         \
-    TREE_2((tree) + 6, (level) + 2);                         \
-    TREE_2((tree) + 9, (level) + 2);                         \
-    TREE_2((tree) + 12, (level) + 2)
+/* A range with n scoring entries and its halves. */
+#define SUM(n, left, right, level) sums |= (unsigned)((left) + (right)) ^ (n)
+
+/* The ranges above the leaves of a tree of two to four levels, in Van Emde Boas order from `tree` on, each tested by SPLIT or by SUM. */
+#define TREE_2(test, tree, level) test((tree)[0], (tree)[1], (tree)[2], (level)[0])
+#define TREE_3(test, tree, level)                            \
+    test((tree)[0], (tree)[1], (tree)[4], (level)[0]);       \
+    TREE_2(test, (tree) + 1, (level) + 1);                   \
+    TREE_2(test, (tree) + 4, (level) + 1)
+#define TREE_4(test, tree, level)                            \
+    TREE_2(test, tree, level);                               \
+    test((tree)[1], (tree)[3], (tree)[6], (level)[1]);       \
+    test((tree)[2], (tree)[9], (tree)[12], (level)[1]);      \
+    TREE_2(test, (tree) + 3, (level) + 2);                   \
+    TREE_2(test, (tree) + 6, (level) + 2);                   \
+    TREE_2(test, (tree) + 9, (level) + 2);                   \
+    TREE_2(test, (tree) + 12, (level) + 2)
 
 /* The trees of so many levels from `tree` to `end`. */
+#define TREES(test, tree, end, levels)                       \
+    switch (levels) {                                        \
+    case 2:                                                  \
+        for (; tree < end; tree += 3) {                      \
+            TREE_2(test, tree, level);                       \
+        }                                                    \
+        break;                                               \
+    case 3:                                                  \
+        for (; tree < end; tree += 7) {                      \
+            TREE_3(test, tree, level);                       \
+        }                                                    \
+        break;                                               \
+    default:                                                 \
+        for (; tree < end; tree += 15) {                     \
+            TREE_4(test, tree, level);                       \
+        }                                                    \
+    }
+
 static unsigned trees_faults(const uint16_t *tree, const uint16_t *end, const struct level *of, unsigned levels)
 {
     const struct level level[3] = {of[0], of[1], of[2]};
     unsigned sums = 0, splits = 0;
-    switch (levels) {
-    case 2:
-        for (; tree < end; tree += 3) {
-            TREE_2(tree, level);
-        }
-        break;
-    case 3:
-        for (; tree < end; tree += 7) {
-            TREE_3(tree, level);
-        }
-        break;
-    default:
-        for (; tree < end; tree += 15) {
-            TREE_4(tree, level);
-        }
-    }
+    TREES(SPLIT, tree, end, levels)
     return sums | splits >> 31;
+}
+
+static unsigned tally_trees_faults(const uint16_t *tree, const uint16_t *end, unsigned levels)
+{
+    unsigned sums = 0;
+    TREES(SUM, tree, end, levels)
+    return sums;
 }
 
 /* The counts of a sheet with several leaves: the upper tree, the ranges at its lower edge, the lower trees. */
@@ -290,17 +331,30 @@ static unsigned tree_faults(const uint16_t *counts, const struct size *size)
            trees_faults(counts + 2 * edge, counts + (2u << size->height), levels + top, size->height + 1 - top);
 }
 
-/* Whether the counts are not those of a sheet. */
-static unsigned count_faults(const uint16_t *counts, const struct size *size)
+/* The tallies in the same way: each range above the leaves has those of its halves. */
+static unsigned tally_tree_faults(const uint16_t *tallies, const struct size *size)
 {
-    unsigned faults = size->height == 0 ? 0 : tree_faults(counts, size);
-    return faults | unused_counts(counts, size->height);
+    unsigned sums = 0, top = (size->height + 1) / 2, edge = 1u << (top - 1);
+    const uint8_t *at = size->places;
+    for (unsigned k = edge; k < 2 * edge; k++) {
+        SUM(tallies[at[k]], tallies[at[2 * k]], tallies[at[2 * k + 1]], 0);
+    }
+    return sums | tally_trees_faults(tallies + 1, tallies + 2 * edge, top) |
+           tally_trees_faults(tallies + 2 * edge, tallies + (2u << size->height), size->height + 1 - top);
+}
+
+/* Whether the counts are not those of a sheet, or the tallies above the leaves not the sums of those below. */
+static unsigned count_faults(const uint16_t *counts, const uint16_t *tallies, const struct size *size)
+{
+    unsigned faults = size->height == 0 ? 0 : tree_faults(counts, size) | tally_tree_faults(tallies, size);
+    return faults | tallies[0] | unused_counts(counts, size->height) | unused_counts(tallies, size->height);
 }
 
 /* The cause 1 or 2, or 0 and what M gives. */
-static size_t open(const uint64_t *slots, size_t slots_len, const uint16_t *counts, size_t counts_len, struct size *size)
+static size_t open(const uint64_t *slots, size_t slots_len, const uint16_t *counts, size_t counts_len, const uint16_t *tallies,
+                   size_t tallies_len, struct size *size)
 {
-    if (slots_len != SHEET_SLOTS || counts_len != SHEET_COUNTS)
+    if (slots_len != SHEET_SLOTS || counts_len != SHEET_COUNTS || tallies_len != SHEET_TALLIES)
         return SHEET_LENGTHS;
     if (!tables_made)
         make_tables();
@@ -308,7 +362,7 @@ static size_t open(const uint64_t *slots, size_t slots_len, const uint16_t *coun
     if (n > SHEET_ENTRIES || m < n || m + (n > 0) > 2 * n)
         return SHEET_NOT_A_SHEET;
     *size = size_of(m);
-    if (count_faults(counts, size) != 0 || slot_faults(slots, counts, size) != 0)
+    if (count_faults(counts, tallies, size) != 0 || slot_faults(slots, counts, tallies, size) != 0)
         return SHEET_NOT_A_SHEET;
     return SHEET_ACCEPTED;
 }
@@ -321,12 +375,13 @@ static size_t answered(uint64_t *answer, size_t cause, uint64_t first, uint64_t 
     return cause;
 }
 
-size_t c_check(const uint64_t *slots, size_t slots_len, const uint16_t *counts, size_t counts_len, uint64_t *answer, size_t answer_len)
+size_t c_check(const uint64_t *slots, size_t slots_len, const uint16_t *counts, size_t counts_len, const uint16_t *tallies, size_t tallies_len,
+               uint64_t *answer, size_t answer_len)
 {
     struct size size;
     if (answer_len < 2)
         return SHEET_ANSWER_SHORT;
-    size_t cause = open(slots, slots_len, counts, counts_len, &size);
+    size_t cause = open(slots, slots_len, counts, counts_len, tallies, tallies_len, &size);
     return answered(answer, cause, cause == 0 ? counts[1] : 0, 0);
 }
 
@@ -343,7 +398,29 @@ static unsigned find_leaf(const uint16_t *counts, const struct size *size, size_
     return k - (1u << size->height);
 }
 
-/* How many entries from this one back bear SHEET_TIED, up to the first that does not: the entry has so many before it in its leaf. */
+/* The same, and the number of scoring entries before that leaf. */
+static unsigned find_leaf_scoring(const uint16_t *counts, const uint16_t *tallies, const struct size *size, size_t *rank, size_t *scoring)
+{
+    unsigned k = 1;
+    *scoring = 0;
+    while (k < 1u << size->height) {
+        unsigned place = size->places[2 * k], left = counts[place];
+        bool right = *rank >= left;
+        *rank -= right ? left : 0;
+        *scoring += right ? tallies[place] : 0;
+        k = 2 * k + right;
+    }
+    return k - (1u << size->height);
+}
+
+/* 1 for the entry of a scoring boat, else 0. */
+static size_t scores(uint64_t entry)
+{
+    return (size_t)(~entry >> 62) & 1;
+}
+
+/* How many scoring boats stand from an entry back to the first that does not bear SHEET_TIED, both included: the entry has so many before it in
+ * its leaf. */
 static size_t tied_back(const uint64_t *slots, const uint16_t *counts, const struct size *size, unsigned leaf, size_t rank)
 {
     const uint8_t *at = size->places + (1u << size->height);
@@ -351,15 +428,18 @@ static size_t tied_back(const uint64_t *slots, const uint16_t *counts, const str
     for (;; rank = counts[at[--leaf]] - 1u) {
         const uint64_t *held = slots + leaf * size->leaf;
         const uint8_t *slot = spread_of(size->leaf, counts[at[leaf]])->slot;
-        for (size_t i = rank + 1; i-- > 0; tied++)
-            if ((held[slot[i]] & SHEET_TIED) == 0)
+        for (size_t i = rank + 1; i-- > 0;) {
+            uint64_t entry = held[slot[i]];
+            tied += scores(entry);
+            if ((entry & SHEET_TIED) == 0)
                 return tied;
+        }
         if (leaf == 0)
             return tied;
     }
 }
 
-/* The same from an entry of a leaf on; there may be no such entry. */
+/* How many scoring boats stand from an entry of a leaf on, before the first that does not bear SHEET_TIED; there may be no such entry. */
 static size_t tied_on(const uint64_t *slots, const uint16_t *counts, const struct size *size, unsigned leaf, size_t rank)
 {
     unsigned leaves = 1u << size->height;
@@ -369,37 +449,51 @@ static size_t tied_on(const uint64_t *slots, const uint16_t *counts, const struc
         const uint64_t *held = slots + leaf * size->leaf;
         size_t n = counts[at[leaf]];
         const uint8_t *slot = spread_of(size->leaf, (unsigned)n)->slot;
-        for (; rank < n; rank++, tied++)
-            if ((held[slot[rank]] & SHEET_TIED) == 0)
+        for (; rank < n; rank++) {
+            uint64_t entry = held[slot[rank]];
+            if ((entry & SHEET_TIED) == 0)
                 return tied;
+            tied += scores(entry);
+        }
     }
     return tied;
 }
 
 /* The place of a rank that is there, the sum of the places and the number of boats of its tied group. */
-static void place_of(const uint64_t *slots, const uint16_t *counts, const struct size *size, size_t rank, uint64_t *answer)
+static void place_of(const uint64_t *slots, const uint16_t *counts, const uint16_t *tallies, const struct size *size, size_t rank,
+                     uint64_t *answer)
 {
-    size_t in_leaf = rank;
-    unsigned leaf = find_leaf(counts, size, &in_leaf);
-    size_t before = tied_back(slots, counts, size, leaf, in_leaf);
-    before -= before > rank;    /* the bit at rank 0 has no effect */
-    size_t place = rank - before + 1, t = before + 1 + tied_on(slots, counts, size, leaf, in_leaf + 1);
+    size_t scoring;
+    unsigned leaf = find_leaf_scoring(counts, tallies, size, &rank, &scoring);
+    const uint64_t *held = slots + leaf * size->leaf;
+    const uint8_t *slot = spread_of(size->leaf, counts[size->places[(1u << size->height) + leaf]])->slot;
+    if (scores(held[slot[rank]]) == 0) {
+        answer[0] = 0;
+        answer[1] = 0;
+        answer[2] = 1;
+        return;
+    }
+    for (size_t i = 0; i < rank; i++)
+        scoring += scores(held[slot[i]]);
+    /* The boats of the group before her and herself, then those behind her. */
+    size_t back = tied_back(slots, counts, size, leaf, rank), t = back + tied_on(slots, counts, size, leaf, rank + 1);
+    size_t place = scoring + 2 - back;
     answer[0] = place;
     answer[1] = t * (2 * place + t - 1) / 2;
     answer[2] = t;
 }
 
-size_t c_place(const uint64_t *slots, size_t slots_len, const uint16_t *counts, size_t counts_len, size_t rank, uint64_t *answer,
-               size_t answer_len)
+size_t c_place(const uint64_t *slots, size_t slots_len, const uint16_t *counts, size_t counts_len, const uint16_t *tallies, size_t tallies_len,
+               size_t rank, uint64_t *answer, size_t answer_len)
 {
     struct size size;
     if (answer_len < 3)
         return SHEET_ANSWER_SHORT;
-    size_t cause = open(slots, slots_len, counts, counts_len, &size);
+    size_t cause = open(slots, slots_len, counts, counts_len, tallies, tallies_len, &size);
     if (cause == 0 && rank >= counts[1])
         cause = SHEET_RANK;
     if (cause == 0)
-        place_of(slots, counts, &size, rank, answer);
+        place_of(slots, counts, tallies, &size, rank, answer);
     else
         memset(answer, 0, 3 * sizeof *answer);
     return cause;
@@ -438,13 +532,13 @@ static void copy_out(const uint64_t *slots, const uint16_t *counts, const struct
     }
 }
 
-size_t c_read(const uint64_t *slots, size_t slots_len, const uint16_t *counts, size_t counts_len, size_t first, size_t last,
-              uint64_t *output, size_t output_len, uint64_t *answer, size_t answer_len)
+size_t c_read(const uint64_t *slots, size_t slots_len, const uint16_t *counts, size_t counts_len, const uint16_t *tallies, size_t tallies_len,
+              size_t first, size_t last, uint64_t *output, size_t output_len, uint64_t *answer, size_t answer_len)
 {
     struct size size;
     if (answer_len < 2)
         return SHEET_ANSWER_SHORT;
-    size_t cause = open(slots, slots_len, counts, counts_len, &size);
+    size_t cause = open(slots, slots_len, counts, counts_len, tallies, tallies_len, &size);
     if (cause == 0 && (last >= counts[1] || first > last))
         cause = SHEET_RANK;
     if (cause == 0 && output_len < last - first + 1)
@@ -462,6 +556,7 @@ struct plan {
     struct size size;                /* after the change */
     unsigned range, levels, rank;    /* the range that is laid out anew, the levels below it, and the rank in it */
     uint16_t counts[SHEET_COUNTS];   /* the new counts of this range and those below it, by their numbers */
+    uint16_t tallies[SHEET_TALLIES]; /* their tallies, once the list is changed */
 };
 
 /* A draw among m >= 1 faces; false where the tape ends. A word is used if the m words from the last multiple of m on are below 2^32. */
@@ -633,24 +728,47 @@ static void lay_out(uint64_t *leaf, const uint16_t *counts, unsigned step, size_
     }
 }
 
-/* Writes the counts of a plan: those of the ranges above its range change by one. */
-static void write_counts(uint16_t *counts, const struct plan *plan)
+/* The tallies of a plan's range and those below it, by the list that its leaves get. */
+static void tally(struct plan *plan, const uint64_t *list)
+{
+    unsigned first = plan->range << plan->levels, end = first + (1u << plan->levels);
+    for (unsigned k = first; k < end; k++) {
+        unsigned n = plan->counts[k];
+        plan->tallies[k] = (uint16_t)(n - retired_in(list, n));
+        list += n;
+    }
+    for (unsigned levels = plan->levels; levels > 0; levels--) {
+        first /= 2;
+        end /= 2;
+        for (unsigned k = first; k < end; k++)
+            plan->tallies[k] = (uint16_t)(plan->tallies[2 * k] + plan->tallies[2 * k + 1]);
+    }
+}
+
+/* Writes the counts and tallies of a plan: those of the ranges above its range change by one, the tallies where the entry scores. */
+static void write_counts(uint16_t *counts, uint16_t *tallies, const struct plan *plan, uint64_t entry)
 {
     const uint8_t *at = plan->size.places;
+    int by = plan->insert ? 1 : -1, scoring = scores(entry) ? by : 0;
     if (plan->anew) {
         memset(counts, 0, SHEET_COUNTS * sizeof *counts);
+        memset(tallies, 0, SHEET_TALLIES * sizeof *tallies);
         counts[0] = (uint16_t)plan->size.m;
     }
-    for (unsigned k = plan->range / 2; k > 0; k /= 2)
-        counts[at[k]] = (uint16_t)(counts[at[k]] + (plan->insert ? 1 : -1));
+    for (unsigned k = plan->range / 2; k > 0; k /= 2) {
+        counts[at[k]] = (uint16_t)(counts[at[k]] + by);
+        tallies[at[k]] = (uint16_t)(tallies[at[k]] + scoring);
+    }
     for (unsigned first = plan->range, end = first + 1, levels = 0; levels <= plan->levels; first *= 2, end *= 2, levels++)
-        for (unsigned k = first; k < end; k++)
+        for (unsigned k = first; k < end; k++) {
             counts[at[k]] = plan->counts[k];
+            tallies[at[k]] = plan->tallies[k];
+        }
 }
 
 /* Carries a plan out: the entries of its range are copied to a list, the list is changed and laid out. Then the slots that the sheet no
  * longer has become 0. */
-static void carry_out(uint64_t *slots, uint16_t *counts, const struct size *old, const struct plan *plan, uint64_t entry)
+static void carry_out(uint64_t *slots, uint16_t *counts, uint16_t *tallies, const struct size *old, struct plan *plan, uint64_t entry)
 {
     uint64_t held[1 + SHEET_ENTRIES + 3], *list = held + 1;
     const struct size *new = &plan->size;
@@ -661,9 +779,11 @@ static void carry_out(uint64_t *slots, uint16_t *counts, const struct size *old,
         memmove(list + rank + 1, list + rank, (n - rank) * sizeof *list);
         list[rank] = entry;
     } else {
+        entry = list[rank];
         memmove(list + rank, list + rank + 1, (n - rank - 1) * sizeof *list);
     }
-    write_counts(counts, plan);
+    tally(plan, list);
+    write_counts(counts, tallies, plan, entry);
     first = plan->range << plan->levels;
     lay_out(slots + (first - (1u << new->height)) * new->leaf, plan->counts + first, new->leaf, 1u << plan->levels, held);
     unsigned before = old->leaf << old->height, after = new->leaf << new->height;
@@ -672,7 +792,7 @@ static void carry_out(uint64_t *slots, uint16_t *counts, const struct size *old,
 }
 
 /* An insert or a delete that no cause before 7 refuses. */
-static size_t change(uint64_t *slots, uint16_t *counts, const struct size *size, bool insert, size_t rank, uint64_t entry,
+static size_t change(uint64_t *slots, uint16_t *counts, uint16_t *tallies, const struct size *size, bool insert, size_t rank, uint64_t entry,
                      const uint32_t *tape, size_t tape_len, uint64_t *answer)
 {
     unsigned n = counts[1];
@@ -685,36 +805,36 @@ static size_t change(uint64_t *slots, uint16_t *counts, const struct size *size,
     plan.rank = (unsigned)rank;
     if (!make_plan(&plan, counts, n))
         return answered(answer, SHEET_TAPE_ENDED, 0, 0);
-    carry_out(slots, counts, size, &plan, entry);
+    carry_out(slots, counts, tallies, size, &plan, entry);
     return answered(answer, 0, insert ? n + 1 : n - 1, plan.read);
 }
 
-size_t c_insert(uint64_t *slots, size_t slots_len, uint16_t *counts, size_t counts_len, size_t rank, uint64_t entry, const uint32_t *tape,
-                size_t tape_len, uint64_t *answer, size_t answer_len)
+size_t c_insert(uint64_t *slots, size_t slots_len, uint16_t *counts, size_t counts_len, uint16_t *tallies, size_t tallies_len, size_t rank,
+                uint64_t entry, const uint32_t *tape, size_t tape_len, uint64_t *answer, size_t answer_len)
 {
     struct size size;
     if (answer_len < 2)
         return SHEET_ANSWER_SHORT;
-    size_t cause = open(slots, slots_len, counts, counts_len, &size);
+    size_t cause = open(slots, slots_len, counts, counts_len, tallies, tallies_len, &size);
     if (cause == 0)
         cause = entry == 0 ? SHEET_ENTRY_ZERO : rank > counts[1] ? SHEET_RANK : counts[1] == SHEET_ENTRIES ? SHEET_FULL : 0;
     if (cause != 0)
         return answered(answer, cause, 0, 0);
-    return change(slots, counts, &size, true, rank, entry, tape, tape_len, answer);
+    return change(slots, counts, tallies, &size, true, rank, entry, tape, tape_len, answer);
 }
 
-size_t c_delete(uint64_t *slots, size_t slots_len, uint16_t *counts, size_t counts_len, size_t rank, const uint32_t *tape, size_t tape_len,
-                uint64_t *answer, size_t answer_len)
+size_t c_delete(uint64_t *slots, size_t slots_len, uint16_t *counts, size_t counts_len, uint16_t *tallies, size_t tallies_len, size_t rank,
+                const uint32_t *tape, size_t tape_len, uint64_t *answer, size_t answer_len)
 {
     struct size size;
     if (answer_len < 2)
         return SHEET_ANSWER_SHORT;
-    size_t cause = open(slots, slots_len, counts, counts_len, &size);
+    size_t cause = open(slots, slots_len, counts, counts_len, tallies, tallies_len, &size);
     if (cause == 0 && rank >= counts[1])
         cause = SHEET_RANK;
     if (cause != 0)
         return answered(answer, cause, 0, 0);
-    return change(slots, counts, &size, false, rank, 0, tape, tape_len, answer);
+    return change(slots, counts, tallies, &size, false, rank, 0, tape, tape_len, answer);
 }
 
 /* Where the words of the third slice come from: balance[k] for range k is the first entry of the leaf that its right half begins with. From
@@ -726,7 +846,7 @@ size_t c_delete(uint64_t *slots, size_t slots_len, uint16_t *counts, size_t coun
 /* What the entries of a timed sheet are compared by. */
 static uint64_t key(uint64_t entry)
 {
-    return entry & ~SHEET_TIED;
+    return entry & ~(SHEET_TIED | SHEET_RETIRED);
 }
 
 /* Puts the first entry of each leaf into `firsts`; whether some key is not above the one before it, or the first is 0. */
@@ -749,13 +869,13 @@ static bool falls(const uint64_t *slots, const uint16_t *counts, const struct si
 }
 
 /* The causes 1, 2 and 11, or 0 and what M gives. */
-static size_t open_timed(const uint64_t *slots, size_t slots_len, const uint16_t *counts, size_t counts_len, const uint64_t *balance,
-                         size_t balance_len, struct size *size)
+static size_t open_timed(const uint64_t *slots, size_t slots_len, const uint16_t *counts, size_t counts_len, const uint16_t *tallies,
+                         size_t tallies_len, const uint64_t *balance, size_t balance_len, struct size *size)
 {
     uint64_t firsts[1 << HIGHEST], faults;
     if (balance_len != TIMED_BALANCE)
         return SHEET_LENGTHS;
-    size_t cause = open(slots, slots_len, counts, counts_len, size);
+    size_t cause = open(slots, slots_len, counts, counts_len, tallies, tallies_len, size);
     if (cause != 0)
         return cause;
     unsigned leaves = 1u << size->height;
@@ -799,25 +919,25 @@ static size_t search(const uint64_t *slots, const uint16_t *counts, const uint64
     return before + i;
 }
 
-size_t c_timed_check(const uint64_t *slots, size_t slots_len, const uint16_t *counts, size_t counts_len, const uint64_t *balance,
-                     size_t balance_len, uint64_t *answer, size_t answer_len)
+size_t c_timed_check(const uint64_t *slots, size_t slots_len, const uint16_t *counts, size_t counts_len, const uint16_t *tallies,
+                     size_t tallies_len, const uint64_t *balance, size_t balance_len, uint64_t *answer, size_t answer_len)
 {
     struct size size;
     if (answer_len < 2)
         return SHEET_ANSWER_SHORT;
-    size_t cause = open_timed(slots, slots_len, counts, counts_len, balance, balance_len, &size);
+    size_t cause = open_timed(slots, slots_len, counts, counts_len, tallies, tallies_len, balance, balance_len, &size);
     return answered(answer, cause, cause == 0 ? counts[1] : 0, 0);
 }
 
-size_t c_timed_find(const uint64_t *slots, size_t slots_len, const uint16_t *counts, size_t counts_len, const uint64_t *balance,
-                    size_t balance_len, uint64_t entry, uint64_t *answer, size_t answer_len)
+size_t c_timed_find(const uint64_t *slots, size_t slots_len, const uint16_t *counts, size_t counts_len, const uint16_t *tallies,
+                    size_t tallies_len, const uint64_t *balance, size_t balance_len, uint64_t entry, uint64_t *answer, size_t answer_len)
 {
     struct size size;
     bool there = false;
     size_t rank = 0;
     if (answer_len < 2)
         return SHEET_ANSWER_SHORT;
-    size_t cause = open_timed(slots, slots_len, counts, counts_len, balance, balance_len, &size);
+    size_t cause = open_timed(slots, slots_len, counts, counts_len, tallies, tallies_len, balance, balance_len, &size);
     if (cause == 0 && key(entry) == 0)
         cause = SHEET_ENTRY_ZERO;
     if (cause == 0)
@@ -825,15 +945,16 @@ size_t c_timed_find(const uint64_t *slots, size_t slots_len, const uint16_t *cou
     return answered(answer, cause, there, rank);
 }
 
-size_t c_timed_insert(uint64_t *slots, size_t slots_len, uint16_t *counts, size_t counts_len, uint64_t *balance, size_t balance_len,
-                      uint64_t entry, const uint32_t *tape, size_t tape_len, uint64_t *answer, size_t answer_len)
+size_t c_timed_insert(uint64_t *slots, size_t slots_len, uint16_t *counts, size_t counts_len, uint16_t *tallies, size_t tallies_len,
+                      uint64_t *balance, size_t balance_len, uint64_t entry, const uint32_t *tape, size_t tape_len, uint64_t *answer,
+                      size_t answer_len)
 {
     struct size size;
     bool there = false;
     size_t rank = 0;
     if (answer_len < 2)
         return SHEET_ANSWER_SHORT;
-    size_t cause = open_timed(slots, slots_len, counts, counts_len, balance, balance_len, &size);
+    size_t cause = open_timed(slots, slots_len, counts, counts_len, tallies, tallies_len, balance, balance_len, &size);
     if (cause == 0 && key(entry) == 0)
         cause = SHEET_ENTRY_ZERO;
     if (cause == 0)
@@ -842,24 +963,25 @@ size_t c_timed_insert(uint64_t *slots, size_t slots_len, uint16_t *counts, size_
         cause = there ? TIMED_PRESENT : counts[1] == SHEET_ENTRIES ? SHEET_FULL : 0;
     if (cause != 0)
         return answered(answer, cause, 0, 0);
-    cause = change(slots, counts, &size, true, rank, entry, tape, tape_len, answer);
+    cause = change(slots, counts, tallies, &size, true, rank, entry, tape, tape_len, answer);
     if (cause == 0)
         write_balance(slots, counts, balance);
     return cause;
 }
 
-size_t c_timed_delete(uint64_t *slots, size_t slots_len, uint16_t *counts, size_t counts_len, uint64_t *balance, size_t balance_len,
-                      size_t rank, const uint32_t *tape, size_t tape_len, uint64_t *answer, size_t answer_len)
+size_t c_timed_delete(uint64_t *slots, size_t slots_len, uint16_t *counts, size_t counts_len, uint16_t *tallies, size_t tallies_len,
+                      uint64_t *balance, size_t balance_len, size_t rank, const uint32_t *tape, size_t tape_len, uint64_t *answer,
+                      size_t answer_len)
 {
     struct size size;
     if (answer_len < 2)
         return SHEET_ANSWER_SHORT;
-    size_t cause = open_timed(slots, slots_len, counts, counts_len, balance, balance_len, &size);
+    size_t cause = open_timed(slots, slots_len, counts, counts_len, tallies, tallies_len, balance, balance_len, &size);
     if (cause == 0 && rank >= counts[1])
         cause = SHEET_RANK;
     if (cause != 0)
         return answered(answer, cause, 0, 0);
-    cause = change(slots, counts, &size, false, rank, 0, tape, tape_len, answer);
+    cause = change(slots, counts, tallies, &size, false, rank, 0, tape, tape_len, answer);
     if (cause == 0)
         write_balance(slots, counts, balance);
     return cause;

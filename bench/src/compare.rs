@@ -4,8 +4,8 @@
 
 use crate::sides::{Plain, Proved, Reference, Returned, Side, Store, C};
 use crate::{Arguments, TAPE};
-use reference::layout::{Node, Shape, COUNTS, SLOTS};
-use reference::places::TIED;
+use reference::layout::{Node, Shape, COUNTS, SLOTS, TALLIES};
+use reference::places::{RETIRED, TIED};
 use reference::random::SplitMix64;
 use reference::sizes::{candidate_positions, MAX_ENTRIES};
 
@@ -134,17 +134,17 @@ fn laid_out(random: &mut SplitMix64) -> Store {
     }
     let list: Vec<u64> = (0..n).map(|_| random.entry()).collect();
     shape.lay_out(Node::ROOT, &mut slots, &counts, &list);
-    Store { slots: slots.to_vec(), counts: counts.to_vec() }
+    Store { slots: slots.to_vec(), counts: counts.to_vec(), tallies: shape.tallies(&slots).to_vec() }
 }
 
-/// One damage to a store, most often where entries and counts stand.
+/// One damage to a store, most often where entries, counts and tallies stand.
 fn damage(store: &mut Store, random: &mut SplitMix64) {
-    let Store { slots, counts } = store;
+    let Store { slots, counts, tallies } = store;
     let held = 3 * usize::from(counts[0]) + 2;
     let (used, ranges) = (held.min(SLOTS), (held / 8 + 2).min(COUNTS));
     let (slot, other) = (random.below(used), random.below(used));
     let (count, near) = (random.below(ranges), random.below(ranges));
-    match random.below(12) {
+    match random.below(17) {
         0 => slots[slot] = random.entry(),
         1 => slots[slot] = 0,
         2 => slots[slot] = 1 << random.below(64),
@@ -156,6 +156,11 @@ fn damage(store: &mut Store, random: &mut SplitMix64) {
         8 => counts[count] = random.next_u32() as u16,
         9 => counts[random.below(COUNTS)] ^= 1 << random.below(16),
         10 => counts.swap(count, near),
+        11 => tallies[count] = tallies[count].wrapping_add(1),
+        12 => tallies[count] = tallies[count].wrapping_sub(1),
+        13 => tallies[random.below(TALLIES)] ^= 1 << random.below(16),
+        14 => tallies.swap(count, near),
+        15 => slots[slot] ^= RETIRED,
         _ => counts[0] = random.below(2 * MAX_ENTRIES + 2) as u16,
     }
 }
@@ -167,13 +172,16 @@ fn tie(store: &mut Store, random: &mut SplitMix64) {
     }
 }
 
-/// Takes an element from the slots or the counts, or puts one behind them.
+/// Takes an element from the slots, the counts or the tallies, or puts one behind
+/// them.
 fn other_lengths(store: &mut Store, random: &mut SplitMix64) {
-    match random.below(4) {
+    match random.below(6) {
         0 => drop(store.slots.pop()),
         1 => drop(store.counts.pop()),
-        2 => store.slots.push(0),
-        _ => store.counts.push(0),
+        2 => drop(store.tallies.pop()),
+        3 => store.slots.push(0),
+        4 => store.counts.push(0),
+        _ => store.tallies.push(0),
     }
 }
 

@@ -9,8 +9,9 @@
 //! a row is a cost in bare scans (docs/PERFORMANCE.md).
 //!
 //! Entries are random: every second one bears bit 63, so that a tied group has
-//! two boats on the average. The rows "place tied" are on copies of the stores on
-//! which all boats tie.
+//! two boats on the average, and one in 50 is that of a retired boat. Some rows are on
+//! copies of the stores: "place tied" where all boats bear bit 63, "check none" where
+//! no boat has retired, "check many" and "place many" where about half of them have.
 //!
 //! Before the measuring all sides are compared with `tests/reference`
 //! ([`compare`]), before each length with each other, and after each turn the
@@ -22,7 +23,8 @@ mod sides;
 mod timed_sheets;
 mod tree_order;
 
-use reference::places::TIED;
+use reference::layout::Shape;
+use reference::places::{RETIRED, TIED};
 use reference::random::SplitMix64;
 use sides::{Plain, Proved, Returned, Side, Store, C};
 use std::hint::black_box;
@@ -40,6 +42,8 @@ const ROUNDS: usize = 16;
 /// More words than any call on 1,024 entries reads, but for rejected ones.
 const TAPE: usize = 192;
 const BUILT: usize = 1000;
+/// One entry in so many is that of a retired boat.
+const RETIRED_IN: usize = 50;
 
 /// Arguments for a call on a store of any length.
 struct Arguments {
@@ -54,7 +58,7 @@ impl Arguments {
         random.fill(&mut words);
         Arguments {
             rank: random.next_u64() >> 32,
-            entry: random.entry(),
+            entry: retired_one_in(RETIRED_IN, random.entry() | 1, random),
             words,
         }
     }
@@ -67,6 +71,11 @@ impl Arguments {
     fn list(random: &mut SplitMix64, count: usize) -> Vec<Arguments> {
         (0..count).map(|_| Arguments::new(random)).collect()
     }
+}
+
+/// The entry, which in one case of so many is that of a retired boat.
+fn retired_one_in(cases: usize, entry: u64, random: &mut SplitMix64) -> u64 {
+    entry & !RETIRED | if random.below(cases) == 0 { RETIRED } else { 0 }
 }
 
 fn accepted(returned: Returned) {
@@ -96,26 +105,46 @@ struct Times {
     read: f64,
     place: f64,
     tied: f64,
+    check_none: f64,
+    check_many: f64,
+    place_many: f64,
 }
 
 /// A kind of call: its name, its time in a measurement, and its goal at each length, in bare scans of the store, if it has one.
 type Kind = (&'static str, fn(&Times) -> f64, Option<[f64; LENGTHS.len()]>);
 
-const KINDS: [Kind; 6] = [
+const KINDS: [Kind; 9] = [
     ("check", |t| t.check, Some([1.2, 1.3, 1.7, 2.5, 3.8])),
     ("insert", |t| t.insert, Some([1.3, 1.9, 2.4, 3.9, 5.5])),
     ("delete", |t| t.delete, Some([1.3, 1.9, 2.4, 3.9, 5.5])),
     ("read 64", |t| t.read, Some([1.4, 1.5, 1.9, 2.9, 4.4])),
     ("place", |t| t.place, Some([1.2, 1.3, 1.7, 2.5, 3.8])),
     ("place tied", |t| t.tied, None),
+    ("check none", |t| t.check_none, None),
+    ("check many", |t| t.check_many, None),
+    ("place many", |t| t.place_many, None),
 ];
 
-/// Copies of the stores on which all boats tie.
+/// Copies of the stores on which all boats bear bit 63.
 fn all_tied(stores: &[Store]) -> Vec<Store> {
     let mut tied = stores.to_vec();
     let slots = tied.iter_mut().flat_map(|store| &mut store.slots);
     slots.filter(|slot| **slot != 0).for_each(|slot| *slot |= TIED);
     tied
+}
+
+/// Copies of the stores on which those boats have retired that `retired` tells, asked
+/// once for each, in their order.
+fn with_retired(stores: &[Store], mut retired: impl FnMut() -> bool) -> Vec<Store> {
+    let mut copies = stores.to_vec();
+    for Store { slots, counts, tallies } in &mut copies {
+        for slot in slots.iter_mut().filter(|slot| **slot != 0) {
+            *slot = *slot & !RETIRED | if retired() { RETIRED } else { 0 };
+        }
+        let shape = Shape::of(usize::from(counts[0]));
+        tallies.copy_from_slice(&shape.tallies(slots[..].try_into().expect("the length of a store")));
+    }
+    copies
 }
 
 /// One measurement of all calls on stores of n entries. Inserts and deletes
@@ -139,13 +168,14 @@ fn measure<S: Side>(n: usize, stores: &mut [Store], arguments: &[Arguments]) -> 
     let count = n.min(64);
     let mut output = [0; 64];
     let rounds = || arguments.chunks_exact(2 * stores.len());
-    times.check = time_of(calls, || {
+    let checks = |stores: &[Store]| {
         for _ in rounds() {
-            for store in &*stores {
+            for store in stores {
                 accepted(S::check(black_box(store)));
             }
         }
-    });
+    };
+    times.check = time_of(calls, || checks(stores));
     let places = |stores: &[Store]| {
         for round in rounds() {
             for (store, a) in stores.iter().zip(round) {
@@ -156,6 +186,13 @@ fn measure<S: Side>(n: usize, stores: &mut [Store], arguments: &[Arguments]) -> 
     times.place = time_of(calls, || places(stores));
     let tied = all_tied(stores);
     times.tied = time_of(calls, || places(&tied));
+    let none = with_retired(stores, || false);
+    times.check_none = time_of(calls, || checks(&none));
+    // The same boats on all sides, in every measurement.
+    let mut random = SplitMix64::new(3);
+    let many = with_retired(stores, || random.below(2) == 0);
+    times.check_many = time_of(calls, || checks(&many));
+    times.place_many = time_of(calls, || places(&many));
     times.read = time_of(calls, || {
         for round in rounds() {
             for (store, a) in stores.iter().zip(round) {
@@ -174,8 +211,8 @@ fn measure<S: Side>(n: usize, stores: &mut [Store], arguments: &[Arguments]) -> 
 fn scan(store: &Store) -> u64 {
     let join = |any: u64, block: &[u64]| block.iter().fold(any, |any, &slot| any | slot);
     let slots = store.slots.chunks_exact(64).fold(0, join);
-    let counts = store.counts.iter().fold(0, |any, &count| any | count);
-    slots | u64::from(counts)
+    let numbers = store.counts.iter().chain(&store.tallies).fold(0, |any, &number| any | number);
+    slots | u64::from(numbers)
 }
 
 fn scan_time(stores: &[Store]) -> f64 {
@@ -223,7 +260,8 @@ impl Within {
 
 const ALL_WITHIN: Within = Within { side: true, goal: true };
 
-/// Prints one row. The rows of tied boats, of building and of timed sheets have no goal.
+/// Prints one row. The rows of tied boats, of none and of many retired ones, of building
+/// and of timed sheets have no goal.
 fn row(kind: &str, n: &str, taken: &Taken, scan: f64, goal: Option<f64>) -> Within {
     let Taken { proved, c, plain } = taken;
     let fastest = plain.as_ref().filter(|plain| median(plain) < median(c)).unwrap_or(c);

@@ -5,9 +5,10 @@
 use crate::sides::Returned;
 use crate::tree_order::{places, Places};
 use reference::layout::{COUNTS, SLOTS};
-use reference::places::TIED;
+use reference::places::{RETIRED, TIED};
 use reference::sizes::MAX_ENTRIES;
 
+/// Counts or tallies, which are as many and stand in the same order.
 type Counts = [u16; COUNTS];
 
 const TAPE_ENDS: u64 = 7;
@@ -141,6 +142,10 @@ fn leaf_is_spread(leaf: &[u64], n: usize) -> bool {
     })
 }
 
+fn retired_in(entries: &[u64]) -> usize {
+    entries.iter().map(|&entry| usize::from(entry & RETIRED != 0)).sum()
+}
+
 /// Whether each range above the leaves is split at a candidate; the counts stand
 /// by their numbers here.
 fn tree_is_balanced(counts: &Counts, c: usize, levels: usize, k: usize) -> bool {
@@ -156,12 +161,19 @@ fn tree_is_balanced(counts: &Counts, c: usize, levels: usize, k: usize) -> bool 
     b >= start && b < start + c && tree_is_balanced(counts, below, levels - 1, 2 * k) && tree_is_balanced(counts, below, levels - 1, 2 * k + 1)
 }
 
+/// Whether each range above the leaves has the tallies of its halves; they stand by
+/// their numbers here.
+fn tallies_add_up(tallies: &Counts, leaves: usize) -> bool {
+    (1..leaves).fold(0, |faults, k| faults | tallies[2 * k].wrapping_add(tallies[2 * k + 1]) ^ tallies[k]) == 0
+}
+
 /// The size and the length of the sheet in the store, or the cause 1 or 2.
-fn open(slots: &[u64], counts: &[u16]) -> Result<(Size, usize), u64> {
+fn open(slots: &[u64], counts: &[u16], tallies: &[u16]) -> Result<(Size, usize), u64> {
     if slots.len() != SLOTS {
         return Err(1);
     }
     let counts: &Counts = counts.try_into().map_err(|_| 1u64)?;
+    let tallies: &Counts = tallies.try_into().map_err(|_| 1u64)?;
     let (m, n) = (counts[0] as usize, counts[1] as usize);
     if n > MAX_ENTRIES || m < n || m > (2 * n).saturating_sub(1) {
         return Err(2);
@@ -172,8 +184,17 @@ fn open(slots: &[u64], counts: &[u16]) -> Result<(Size, usize), u64> {
     if !tree_is_balanced(&numbered, size.candidates, size.height, 1) || counts[2 * leaves..].iter().fold(0, |any, &c| any | c) != 0 {
         return Err(2);
     }
+    let scoring = size.by_number(tallies);
+    if !tallies_add_up(&scoring, leaves) || tallies[2 * leaves..].iter().fold(tallies[0], |any, &t| any | t) != 0 {
+        return Err(2);
+    }
     let (used, unused) = slots.split_at(size.leaf * leaves);
-    let spread = m == 0 || used.chunks_exact(size.leaf).zip(&numbered[leaves..]).all(|(leaf, &n)| leaf_is_spread(leaf, n as usize));
+    let mut leaf_numbers = numbered[leaves..].iter().zip(&scoring[leaves..]);
+    let mut next_is = |leaf: &[u64]| {
+        let (n, tally) = leaf_numbers.next().expect("as many leaves");
+        leaf_is_spread(leaf, usize::from(*n)) && usize::from(*n) - retired_in(leaf) == usize::from(*tally)
+    };
+    let spread = if m == 0 { tallies[1] == 0 } else { used.chunks_exact(size.leaf).all(&mut next_is) };
     if !spread || unused.iter().fold(0, |any, &slot| any | slot) != 0 {
         return Err(2);
     }
@@ -324,7 +345,9 @@ fn under(size: Size, part: &Part) -> (std::ops::Range<usize>, std::ops::Range<us
     (from..from + (size.leaf << levels), leaves)
 }
 
-fn lay_part(slots: &mut [u64], old: Size, new: Size, part: &Part, entry: u64, counts: &Counts) {
+/// Lays the part out, and writes the tallies of its leaves; whether the entry that
+/// came in or went out scores.
+fn lay_part(slots: &mut [u64], old: Size, new: Size, part: &Part, entry: u64, counts: &Counts, tallies: &mut Counts) -> bool {
     let mut list = [0; MAX_ENTRIES + 1];
     let mut n = 0;
     let (from, _) = under(old, part);
@@ -335,79 +358,144 @@ fn lay_part(slots: &mut [u64], old: Size, new: Size, part: &Part, entry: u64, co
         }
     }
     let rank = part.change.rank();
-    match part.change {
+    let moved = match part.change {
         Change::Insert(_) => {
             list.copy_within(rank..n, rank + 1);
             list[rank] = entry;
+            entry
         }
-        Change::Delete(_) => list.copy_within(rank + 1..n, rank),
-    }
+        Change::Delete(_) => {
+            let gone = list[rank];
+            list.copy_within(rank + 1..n, rank);
+            gone
+        }
+    };
     slots[from].fill(0);
     let (to, leaves) = under(new, part);
-    let mut entries = list.iter();
-    if new.leaf == 0 {
-        return;
-    }
-    for (leaf, k) in slots[to].chunks_exact_mut(new.leaf).zip(leaves) {
-        let n = new.count(counts, k);
-        let mut next = Slots::new(leaf.len(), n);
-        for &entry in entries.by_ref().take(n) {
-            leaf[next.slot] = entry;
-            next.advance();
+    let mut entries = &list[..];
+    if new.leaf > 0 {
+        for (leaf, k) in slots[to].chunks_exact_mut(new.leaf).zip(leaves) {
+            let n = new.count(counts, k);
+            let (own, rest) = entries.split_at(n);
+            entries = rest;
+            let mut next = Slots::new(leaf.len(), n);
+            for &entry in own {
+                leaf[next.slot] = entry;
+                next.advance();
+            }
+            new.set_count(tallies, k, n - retired_in(own));
         }
+    }
+    moved & RETIRED == 0
+}
+
+/// The tallies of the ranges of a part, from those of its leaves, and of the ranges
+/// above it, which change by one where the entry scores.
+fn tally(tallies: &mut Counts, size: &Size, part: &Part, scores: bool) {
+    for levels in (0..size.height - part.depth).rev() {
+        for k in part.k << levels..(part.k + 1) << levels {
+            let sum = size.count(tallies, 2 * k) + size.count(tallies, 2 * k + 1);
+            size.set_count(tallies, k, sum);
+        }
+    }
+    let mut above = part.k / 2;
+    while scores && above > 0 {
+        let after = part.change.after(size.count(tallies, above));
+        size.set_count(tallies, above, after);
+        above /= 2;
     }
 }
 
-fn change(slots: &mut [u64], counts: &mut [u16], old: Size, n: usize, change: Change, entry: u64, tape: &[u32]) -> Returned {
-    let counts: &mut Counts = counts.try_into().expect("the lengths are right");
+/// The lent slices, which have the right lengths.
+struct Lent<'a> {
+    slots: &'a mut [u64],
+    counts: &'a mut [u16],
+    tallies: &'a mut [u16],
+}
+
+fn change(lent: Lent, old: Size, n: usize, change: Change, entry: u64, tape: &[u32]) -> Returned {
+    let counts: &mut Counts = lent.counts.try_into().expect("the lengths are right");
+    let tallies: &mut Counts = lent.tallies.try_into().expect("the lengths are right");
     let mut tape = Tape { words: tape, place: 0 };
     let mut work = *counts;
-    let Some((new, part)) = plan(&mut work, old, n, change, &mut tape) else {
+    let Some((new, part, anew)) = plan(&mut work, old, n, change, &mut tape) else {
         return [TAPE_ENDS, 0, 0, 0];
     };
-    lay_part(slots, old, new, &part, entry, &work);
+    if anew {
+        tallies.fill(0);
+    }
+    let scores = lay_part(lent.slots, old, new, &part, entry, &work, tallies);
+    tally(tallies, &new, &part, scores);
     *counts = work;
     [0, change.after(n) as u64, tape.place as u64, 0]
 }
 
-fn plan(work: &mut Counts, old: Size, n: usize, change: Change, tape: &mut Tape) -> Option<(Size, Part)> {
+/// The size after the change, the part, and whether the size was set anew.
+fn plan(work: &mut Counts, old: Size, n: usize, change: Change, tape: &mut Tape) -> Option<(Size, Part, bool)> {
     match size_step(change, n, old.m, tape)? {
-        None => Some((old, walk(work, old, n, change, tape)?)),
+        None => Some((old, walk(work, old, n, change, tape)?, false)),
         Some(m) => {
             let new = Size::new(m);
             *work = [0; COUNTS];
             work[0] = m as u16;
             rebuild(work, &new, new.root(), change.after(n), tape)?;
-            Some((new, Part { k: 1, depth: 0, change }))
+            Some((new, Part { k: 1, depth: 0, change }, true))
         }
     }
 }
 
-pub fn check(slots: &[u64], counts: &[u16]) -> Returned {
-    match open(slots, counts) {
+pub fn check(slots: &[u64], counts: &[u16], tallies: &[u16]) -> Returned {
+    match open(slots, counts, tallies) {
         Ok((_, n)) => [0, n as u64, 0, 0],
         Err(cause) => [cause, 0, 0, 0],
     }
 }
 
-pub fn place(slots: &[u64], counts: &[u16], rank: usize) -> Returned {
-    let size = match open(slots, counts) {
+fn scores(entry: u64) -> bool {
+    entry & RETIRED == 0
+}
+
+pub fn place(slots: &[u64], counts: &[u16], tallies: &[u16], rank: usize) -> Returned {
+    let size = match open(slots, counts, tallies) {
         Ok((_, n)) if rank >= n => return [4, 0, 0, 0],
         Ok((size, _)) => size,
         Err(cause) => return [cause, 0, 0, 0],
     };
     let counts: &Counts = counts.try_into().expect("the lengths are right");
+    let tallies: &Counts = tallies.try_into().expect("the lengths are right");
     let (leaf, in_leaf) = find_leaf(&size, counts, rank);
     let mut at = Slots::new(size.leaf, size.count(counts, size.leaves() + leaf));
     (0..in_leaf).for_each(|_| at.advance());
-    let (back, on) = slots[..size.leaf * size.leaves()].split_at(leaf * size.leaf + at.slot + 1);
-    // Those of the boats up to this rank that tied with the boat before; the bit at rank 0 has no effect.
-    let held = |slot: &&u64| **slot != 0;
-    let ties = |entry: &&u64| **entry & TIED != 0;
-    let before = back.iter().rev().filter(held).take_while(ties).count().min(rank);
-    let behind = on.iter().filter(held).take_while(ties).count();
-    let (place, t) = ((rank - before + 1) as u64, (before + 1 + behind) as u64);
+    let start = leaf * size.leaf;
+    let her = start + at.slot;
+    if !scores(slots[her]) {
+        return [0, 0, 0, 1];
+    }
+    let (back, on) = slots[..size.leaf * size.leaves()].split_at(her + 1);
+    let scoring = |entries: &[u64]| entries.iter().filter(|&&slot| slot != 0 && scores(slot)).count();
+    let before = scoring_before_leaf(&size, tallies, leaf) + scoring(&back[start..her]);
+    // From her back to the first boat that bears no bit, and on to the last that does: the scoring boats of her group.
+    let mut first = 0;
+    for &entry in back.iter().rev().filter(|slot| **slot != 0) {
+        first += usize::from(scores(entry));
+        if entry & TIED == 0 {
+            break;
+        }
+    }
+    let behind = on.iter().filter(|slot| **slot != 0).take_while(|entry| **entry & TIED != 0);
+    let behind = behind.filter(|entry| scores(**entry)).count();
+    let (place, t) = ((before + 2 - first) as u64, (first + behind) as u64);
     [0, place, t * (2 * place + t - 1) / 2, t]
+}
+
+/// The scoring entries before a leaf, by the tallies of the left halves on the way up.
+fn scoring_before_leaf(size: &Size, tallies: &Counts, leaf: usize) -> usize {
+    let (mut k, mut scoring) = (size.leaves() + leaf, 0);
+    while k > 1 {
+        scoring += if k % 2 == 1 { size.count(tallies, k - 1) } else { 0 };
+        k /= 2;
+    }
+    scoring
 }
 
 /// The leaf that holds the entry of this rank, and how many stand before it there.
@@ -421,8 +509,8 @@ fn find_leaf(size: &Size, counts: &Counts, rank: usize) -> (usize, usize) {
     (leaf, before)
 }
 
-pub fn read(slots: &[u64], counts: &[u16], first: usize, last: usize, output: &mut [u64]) -> Returned {
-    let size = match open(slots, counts) {
+pub fn read(slots: &[u64], counts: &[u16], tallies: &[u16], first: usize, last: usize, output: &mut [u64]) -> Returned {
+    let size = match open(slots, counts, tallies) {
         Ok((_, n)) if last >= n || first > last => return [4, 0, 0, 0],
         Ok((size, _)) => size,
         Err(cause) => return [cause, 0, 0, 0],
@@ -440,20 +528,20 @@ pub fn read(slots: &[u64], counts: &[u16], first: usize, last: usize, output: &m
     [0, count as u64, 0, 0]
 }
 
-pub fn insert(slots: &mut [u64], counts: &mut [u16], rank: usize, entry: u64, tape: &[u32]) -> Returned {
-    match open(slots, counts) {
+pub fn insert(slots: &mut [u64], counts: &mut [u16], tallies: &mut [u16], rank: usize, entry: u64, tape: &[u32]) -> Returned {
+    match open(slots, counts, tallies) {
         Ok(_) if entry == 0 => [3, 0, 0, 0],
         Ok((_, n)) if rank > n => [4, 0, 0, 0],
         Ok((_, n)) if n == MAX_ENTRIES => [5, 0, 0, 0],
-        Ok((size, n)) => change(slots, counts, size, n, Change::Insert(rank), entry, tape),
+        Ok((size, n)) => change(Lent { slots, counts, tallies }, size, n, Change::Insert(rank), entry, tape),
         Err(cause) => [cause, 0, 0, 0],
     }
 }
 
-pub fn delete(slots: &mut [u64], counts: &mut [u16], rank: usize, tape: &[u32]) -> Returned {
-    match open(slots, counts) {
+pub fn delete(slots: &mut [u64], counts: &mut [u16], tallies: &mut [u16], rank: usize, tape: &[u32]) -> Returned {
+    match open(slots, counts, tallies) {
         Ok((_, n)) if rank >= n => [4, 0, 0, 0],
-        Ok((size, n)) => change(slots, counts, size, n, Change::Delete(rank), 0, tape),
+        Ok((size, n)) => change(Lent { slots, counts, tallies }, size, n, Change::Delete(rank), 0, tape),
         Err(cause) => [cause, 0, 0, 0],
     }
 }

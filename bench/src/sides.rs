@@ -2,12 +2,13 @@
 
 use crate::plain;
 use reference::calls::{self, Answer};
-use reference::layout::{COUNTS, SLOTS};
+use reference::layout::{COUNTS, SLOTS, TALLIES};
 
 #[derive(Clone, Debug, PartialEq, Eq)]
 pub struct Store {
     pub slots: Vec<u64>,
     pub counts: Vec<u16>,
+    pub tallies: Vec<u16>,
 }
 
 impl Store {
@@ -16,6 +17,7 @@ impl Store {
         Store {
             slots: vec![0; SLOTS],
             counts: vec![0; COUNTS],
+            tallies: vec![0; TALLIES],
         }
     }
 }
@@ -39,13 +41,34 @@ pub trait Side {
 macro_rules! side_in_c {
     ($side:ident, $check:ident, $place:ident, $read:ident, $insert:ident, $delete:ident) => {
         extern "C" {
-            fn $check(slots: *const u64, slots_len: usize, counts: *const u16, counts_len: usize, answer: *mut u64, answer_len: usize) -> usize;
-            fn $place(slots: *const u64, slots_len: usize, counts: *const u16, counts_len: usize, rank: usize, answer: *mut u64, answer_len: usize) -> usize;
+            fn $check(
+                slots: *const u64,
+                slots_len: usize,
+                counts: *const u16,
+                counts_len: usize,
+                tallies: *const u16,
+                tallies_len: usize,
+                answer: *mut u64,
+                answer_len: usize,
+            ) -> usize;
+            fn $place(
+                slots: *const u64,
+                slots_len: usize,
+                counts: *const u16,
+                counts_len: usize,
+                tallies: *const u16,
+                tallies_len: usize,
+                rank: usize,
+                answer: *mut u64,
+                answer_len: usize,
+            ) -> usize;
             fn $read(
                 slots: *const u64,
                 slots_len: usize,
                 counts: *const u16,
                 counts_len: usize,
+                tallies: *const u16,
+                tallies_len: usize,
                 first: usize,
                 last: usize,
                 output: *mut u64,
@@ -58,6 +81,8 @@ macro_rules! side_in_c {
                 slots_len: usize,
                 counts: *mut u16,
                 counts_len: usize,
+                tallies: *mut u16,
+                tallies_len: usize,
                 rank: usize,
                 entry: u64,
                 tape: *const u32,
@@ -70,6 +95,8 @@ macro_rules! side_in_c {
                 slots_len: usize,
                 counts: *mut u16,
                 counts_len: usize,
+                tallies: *mut u16,
+                tallies_len: usize,
                 rank: usize,
                 tape: *const u32,
                 tape_len: usize,
@@ -81,39 +108,40 @@ macro_rules! side_in_c {
         impl Side for $side {
             #[inline(never)]
             fn check(store: &Store) -> Returned {
-                let (s, c, mut a) = (&store.slots, &store.counts, [0; 2]);
-                let number = unsafe { $check(s.as_ptr(), s.len(), c.as_ptr(), c.len(), a.as_mut_ptr(), 2) };
+                let (s, c, t, mut a) = (&store.slots, &store.counts, &store.tallies, [0; 2]);
+                let number = unsafe { $check(s.as_ptr(), s.len(), c.as_ptr(), c.len(), t.as_ptr(), t.len(), a.as_mut_ptr(), 2) };
                 [number as u64, a[0], a[1], 0]
             }
 
             #[inline(never)]
             fn place(store: &Store, rank: usize) -> Returned {
-                let (s, c, mut a) = (&store.slots, &store.counts, [0; 3]);
-                let number = unsafe { $place(s.as_ptr(), s.len(), c.as_ptr(), c.len(), rank, a.as_mut_ptr(), 3) };
+                let (s, c, t, mut a) = (&store.slots, &store.counts, &store.tallies, [0; 3]);
+                let number = unsafe { $place(s.as_ptr(), s.len(), c.as_ptr(), c.len(), t.as_ptr(), t.len(), rank, a.as_mut_ptr(), 3) };
                 [number as u64, a[0], a[1], a[2]]
             }
 
             #[inline(never)]
             fn read(store: &Store, first: usize, last: usize, output: &mut [u64]) -> Returned {
-                let (s, c, mut a) = (&store.slots, &store.counts, [0; 2]);
+                let (s, c, t, mut a) = (&store.slots, &store.counts, &store.tallies, [0; 2]);
+                let (s, s_len, c, c_len, t, t_len) = (s.as_ptr(), s.len(), c.as_ptr(), c.len(), t.as_ptr(), t.len());
                 let (o, o_len) = (output.as_mut_ptr(), output.len());
-                let number = unsafe { $read(s.as_ptr(), s.len(), c.as_ptr(), c.len(), first, last, o, o_len, a.as_mut_ptr(), 2) };
+                let number = unsafe { $read(s, s_len, c, c_len, t, t_len, first, last, o, o_len, a.as_mut_ptr(), 2) };
                 [number as u64, a[0], a[1], 0]
             }
 
             #[inline(never)]
             fn insert(store: &mut Store, rank: usize, entry: u64, tape: &[u32]) -> Returned {
-                let (s, c, mut a) = (&mut store.slots, &mut store.counts, [0; 2]);
-                let (t, t_len) = (tape.as_ptr(), tape.len());
-                let number = unsafe { $insert(s.as_mut_ptr(), s.len(), c.as_mut_ptr(), c.len(), rank, entry, t, t_len, a.as_mut_ptr(), 2) };
+                let (s, c, t, mut a) = (&mut store.slots, &mut store.counts, &mut store.tallies, [0; 2]);
+                let (s, s_len, c, c_len, t, t_len) = (s.as_mut_ptr(), s.len(), c.as_mut_ptr(), c.len(), t.as_mut_ptr(), t.len());
+                let number = unsafe { $insert(s, s_len, c, c_len, t, t_len, rank, entry, tape.as_ptr(), tape.len(), a.as_mut_ptr(), 2) };
                 [number as u64, a[0], a[1], 0]
             }
 
             #[inline(never)]
             fn delete(store: &mut Store, rank: usize, tape: &[u32]) -> Returned {
-                let (s, c, mut a) = (&mut store.slots, &mut store.counts, [0; 2]);
-                let (t, t_len) = (tape.as_ptr(), tape.len());
-                let number = unsafe { $delete(s.as_mut_ptr(), s.len(), c.as_mut_ptr(), c.len(), rank, t, t_len, a.as_mut_ptr(), 2) };
+                let (s, c, t, mut a) = (&mut store.slots, &mut store.counts, &mut store.tallies, [0; 2]);
+                let (s, s_len, c, c_len, t, t_len) = (s.as_mut_ptr(), s.len(), c.as_mut_ptr(), c.len(), t.as_mut_ptr(), t.len());
+                let number = unsafe { $delete(s, s_len, c, c_len, t, t_len, rank, tape.as_ptr(), tape.len(), a.as_mut_ptr(), 2) };
                 [number as u64, a[0], a[1], 0]
             }
         }
@@ -142,27 +170,27 @@ pub fn returned(answer: Answer) -> Returned {
 impl Side for Reference {
     #[inline(never)]
     fn check(store: &Store) -> Returned {
-        returned(calls::check(&store.slots, &store.counts))
+        returned(calls::check(&store.slots, &store.counts, &store.tallies))
     }
 
     #[inline(never)]
     fn place(store: &Store, rank: usize) -> Returned {
-        returned(calls::place(&store.slots, &store.counts, rank))
+        returned(calls::place(&store.slots, &store.counts, &store.tallies, rank))
     }
 
     #[inline(never)]
     fn read(store: &Store, first: usize, last: usize, output: &mut [u64]) -> Returned {
-        returned(calls::read(&store.slots, &store.counts, first, last, output))
+        returned(calls::read(&store.slots, &store.counts, &store.tallies, first, last, output))
     }
 
     #[inline(never)]
     fn insert(store: &mut Store, rank: usize, entry: u64, tape: &[u32]) -> Returned {
-        returned(calls::insert(&mut store.slots, &mut store.counts, rank, entry, tape))
+        returned(calls::insert(&mut store.slots, &mut store.counts, &mut store.tallies, rank, entry, tape))
     }
 
     #[inline(never)]
     fn delete(store: &mut Store, rank: usize, tape: &[u32]) -> Returned {
-        returned(calls::delete(&mut store.slots, &mut store.counts, rank, tape))
+        returned(calls::delete(&mut store.slots, &mut store.counts, &mut store.tallies, rank, tape))
     }
 }
 
@@ -172,26 +200,26 @@ pub struct Plain;
 impl Side for Plain {
     #[inline(never)]
     fn check(store: &Store) -> Returned {
-        plain::check(&store.slots, &store.counts)
+        plain::check(&store.slots, &store.counts, &store.tallies)
     }
 
     #[inline(never)]
     fn place(store: &Store, rank: usize) -> Returned {
-        plain::place(&store.slots, &store.counts, rank)
+        plain::place(&store.slots, &store.counts, &store.tallies, rank)
     }
 
     #[inline(never)]
     fn read(store: &Store, first: usize, last: usize, output: &mut [u64]) -> Returned {
-        plain::read(&store.slots, &store.counts, first, last, output)
+        plain::read(&store.slots, &store.counts, &store.tallies, first, last, output)
     }
 
     #[inline(never)]
     fn insert(store: &mut Store, rank: usize, entry: u64, tape: &[u32]) -> Returned {
-        plain::insert(&mut store.slots, &mut store.counts, rank, entry, tape)
+        plain::insert(&mut store.slots, &mut store.counts, &mut store.tallies, rank, entry, tape)
     }
 
     #[inline(never)]
     fn delete(store: &mut Store, rank: usize, tape: &[u32]) -> Returned {
-        plain::delete(&mut store.slots, &mut store.counts, rank, tape)
+        plain::delete(&mut store.slots, &mut store.counts, &mut store.tallies, rank, tape)
     }
 }

@@ -4,7 +4,7 @@
 
 use crate::sides::{returned, Proved, Reference, Returned, Store, C};
 use crate::{accepted, median, row, scan_time, time_of, Arguments, Taken, Within, ALL_WITHIN, ROUNDS, STORES};
-use reference::places::TIED;
+use reference::places::{RETIRED, TIED};
 use reference::random::SplitMix64;
 use reference::timed;
 use std::hint::black_box;
@@ -44,12 +44,25 @@ trait TimedSide {
 macro_rules! timed_side_in_c {
     ($side:ident, $check:ident, $find:ident, $insert:ident, $delete:ident) => {
         extern "C" {
-            fn $check(s: *const u64, s_len: usize, c: *const u16, c_len: usize, b: *const u64, b_len: usize, a: *mut u64, a_len: usize) -> usize;
+            fn $check(
+                slots: *const u64,
+                slots_len: usize,
+                counts: *const u16,
+                counts_len: usize,
+                tallies: *const u16,
+                tallies_len: usize,
+                balance: *const u64,
+                balance_len: usize,
+                answer: *mut u64,
+                answer_len: usize,
+            ) -> usize;
             fn $find(
                 slots: *const u64,
                 slots_len: usize,
                 counts: *const u16,
                 counts_len: usize,
+                tallies: *const u16,
+                tallies_len: usize,
                 balance: *const u64,
                 balance_len: usize,
                 entry: u64,
@@ -61,6 +74,8 @@ macro_rules! timed_side_in_c {
                 slots_len: usize,
                 counts: *mut u16,
                 counts_len: usize,
+                tallies: *mut u16,
+                tallies_len: usize,
                 balance: *mut u64,
                 balance_len: usize,
                 entry: u64,
@@ -74,6 +89,8 @@ macro_rules! timed_side_in_c {
                 slots_len: usize,
                 counts: *mut u16,
                 counts_len: usize,
+                tallies: *mut u16,
+                tallies_len: usize,
                 balance: *mut u64,
                 balance_len: usize,
                 rank: usize,
@@ -87,33 +104,37 @@ macro_rules! timed_side_in_c {
         impl TimedSide for $side {
             #[inline(never)]
             fn check(store: &TimedStore) -> Returned {
-                let (s, c, b, mut a) = (&store.plain.slots, &store.plain.counts, &store.balance, [0; 2]);
-                let number = unsafe { $check(s.as_ptr(), s.len(), c.as_ptr(), c.len(), b.as_ptr(), b.len(), a.as_mut_ptr(), 2) };
+                let TimedStore { plain: Store { slots: s, counts: c, tallies: t }, balance: b } = store;
+                let (s, s_len, c, c_len, t, t_len) = (s.as_ptr(), s.len(), c.as_ptr(), c.len(), t.as_ptr(), t.len());
+                let mut a = [0; 2];
+                let number = unsafe { $check(s, s_len, c, c_len, t, t_len, b.as_ptr(), b.len(), a.as_mut_ptr(), 2) };
                 [number as u64, a[0], a[1], 0]
             }
 
             #[inline(never)]
             fn find(store: &TimedStore, entry: u64) -> Returned {
-                let (s, c, b, mut a) = (&store.plain.slots, &store.plain.counts, &store.balance, [0; 2]);
-                let number = unsafe { $find(s.as_ptr(), s.len(), c.as_ptr(), c.len(), b.as_ptr(), b.len(), entry, a.as_mut_ptr(), 2) };
+                let TimedStore { plain: Store { slots: s, counts: c, tallies: t }, balance: b } = store;
+                let (s, s_len, c, c_len, t, t_len) = (s.as_ptr(), s.len(), c.as_ptr(), c.len(), t.as_ptr(), t.len());
+                let mut a = [0; 2];
+                let number = unsafe { $find(s, s_len, c, c_len, t, t_len, b.as_ptr(), b.len(), entry, a.as_mut_ptr(), 2) };
                 [number as u64, a[0], a[1], 0]
             }
 
             #[inline(never)]
             fn insert(store: &mut TimedStore, entry: u64, tape: &[u32]) -> Returned {
-                let TimedStore { plain: Store { slots: s, counts: c }, balance: b } = store;
-                let (t, t_len, mut a) = (tape.as_ptr(), tape.len(), [0; 2]);
-                let (s, s_len, c, c_len) = (s.as_mut_ptr(), s.len(), c.as_mut_ptr(), c.len());
-                let number = unsafe { $insert(s, s_len, c, c_len, b.as_mut_ptr(), b.len(), entry, t, t_len, a.as_mut_ptr(), 2) };
+                let TimedStore { plain: Store { slots: s, counts: c, tallies: t }, balance: b } = store;
+                let (s, s_len, c, c_len, t, t_len) = (s.as_mut_ptr(), s.len(), c.as_mut_ptr(), c.len(), t.as_mut_ptr(), t.len());
+                let (b, b_len, w, w_len, mut a) = (b.as_mut_ptr(), b.len(), tape.as_ptr(), tape.len(), [0; 2]);
+                let number = unsafe { $insert(s, s_len, c, c_len, t, t_len, b, b_len, entry, w, w_len, a.as_mut_ptr(), 2) };
                 [number as u64, a[0], a[1], 0]
             }
 
             #[inline(never)]
             fn delete(store: &mut TimedStore, rank: usize, tape: &[u32]) -> Returned {
-                let TimedStore { plain: Store { slots: s, counts: c }, balance: b } = store;
-                let (t, t_len, mut a) = (tape.as_ptr(), tape.len(), [0; 2]);
-                let (s, s_len, c, c_len) = (s.as_mut_ptr(), s.len(), c.as_mut_ptr(), c.len());
-                let number = unsafe { $delete(s, s_len, c, c_len, b.as_mut_ptr(), b.len(), rank, t, t_len, a.as_mut_ptr(), 2) };
+                let TimedStore { plain: Store { slots: s, counts: c, tallies: t }, balance: b } = store;
+                let (s, s_len, c, c_len, t, t_len) = (s.as_mut_ptr(), s.len(), c.as_mut_ptr(), c.len(), t.as_mut_ptr(), t.len());
+                let (b, b_len, w, w_len, mut a) = (b.as_mut_ptr(), b.len(), tape.as_ptr(), tape.len(), [0; 2]);
+                let number = unsafe { $delete(s, s_len, c, c_len, t, t_len, b, b_len, rank, w, w_len, a.as_mut_ptr(), 2) };
                 [number as u64, a[0], a[1], 0]
             }
         }
@@ -125,21 +146,21 @@ timed_side_in_c!(C, c_timed_check, c_timed_find, c_timed_insert, c_timed_delete)
 
 impl TimedSide for Reference {
     fn check(store: &TimedStore) -> Returned {
-        returned(timed::check(&store.plain.slots, &store.plain.counts, &store.balance))
+        returned(timed::check(&store.plain.slots, &store.plain.counts, &store.plain.tallies, &store.balance))
     }
 
     fn find(store: &TimedStore, entry: u64) -> Returned {
-        returned(timed::find(&store.plain.slots, &store.plain.counts, &store.balance, entry))
+        returned(timed::find(&store.plain.slots, &store.plain.counts, &store.plain.tallies, &store.balance, entry))
     }
 
     fn insert(store: &mut TimedStore, entry: u64, tape: &[u32]) -> Returned {
-        let TimedStore { plain: Store { slots, counts }, balance } = store;
-        returned(timed::insert(slots, counts, balance, entry, tape))
+        let TimedStore { plain: Store { slots, counts, tallies }, balance } = store;
+        returned(timed::insert(slots, counts, tallies, balance, entry, tape))
     }
 
     fn delete(store: &mut TimedStore, rank: usize, tape: &[u32]) -> Returned {
-        let TimedStore { plain: Store { slots, counts }, balance } = store;
-        returned(timed::delete(slots, counts, balance, rank, tape))
+        let TimedStore { plain: Store { slots, counts, tallies }, balance } = store;
+        returned(timed::delete(slots, counts, tallies, balance, rank, tape))
     }
 }
 
@@ -157,16 +178,20 @@ fn given<S: TimedSide>(store: &TimedStore, entry: u64, a: &Arguments, n: usize) 
 
 /// One damage to a store, which may leave it a timed sheet.
 fn damage(store: &mut TimedStore, random: &mut SplitMix64) {
-    let TimedStore { plain: Store { slots, counts }, balance } = store;
+    let TimedStore { plain: Store { slots, counts, tallies }, balance } = store;
     let (slot, word) = (random.below(slots.len()), random.below(balance.len()));
-    match random.below(8) {
+    match random.below(12) {
         0 => balance[word] ^= 1 << random.below(64),
-        6 => balance[word] ^= TIED,
-        7 => slots[slot] ^= TIED,
-        1 => balance[word] = 0,
-        2 => slots[slot] = 0,
-        3 => slots[slot] = random.entry(),
-        4 => counts[word] ^= 1,
+        1 => balance[word] ^= TIED,
+        2 => balance[word] ^= RETIRED,
+        3 => balance[word] = 0,
+        4 => slots[slot] = 0,
+        5 => slots[slot] = random.entry(),
+        6 => slots[slot] ^= TIED,
+        7 => slots[slot] ^= RETIRED,
+        8 => counts[word] ^= 1,
+        9 => tallies[word] ^= 1,
+        10 => drop(tallies.pop()),
         _ => drop(balance.pop()),
     }
 }
@@ -178,7 +203,7 @@ fn compare(n: usize, stores: &[TimedStore], random: &mut SplitMix64) {
         let mut store = stores[trial % stores.len()].clone();
         let a = Arguments::new(random);
         let there = store.entry(a.rank(n));
-        let entry = [a.entry, there, there ^ TIED, there + 1, 0, TIED][random.below(6)];
+        let entry = [a.entry, there, there ^ TIED, there ^ RETIRED, there + 1, 0, TIED, RETIRED][random.below(8)];
         if trial % 2 == 0 {
             damage(&mut store, random);
         }

@@ -1,6 +1,6 @@
 /* A small display program for timed finishes: enters boats in the order in which their finishes come in, two of them in a dead heat, asks for
- * some of them, strikes one out, and prints place, points, time and sail number of each; then causes that a call is refused by; then a full
- * sheet, each boat of which is found. */
+ * some of them, strikes one out, and prints place, points, time and sail number of each; then one retires; then causes that a call is refused
+ * by; then a full sheet, some boats of which have retired and each of which is found. */
 #include "points.h"
 #include "tape.h"
 #include "timed.h"
@@ -10,11 +10,13 @@
 
 static uint64_t slots[SHEET_SLOTS];
 static uint16_t counts[SHEET_COUNTS];
+static uint16_t tallies[SHEET_TALLIES];
 static uint64_t balance[TIMED_BALANCE];
 static uint64_t answer[3];
 
-/* The three slices of the store, as every call takes them. */
-#define STORE slots, SHEET_SLOTS, counts, SHEET_COUNTS, balance, TIMED_BALANCE
+/* The slices of a plain store, and the four of a timed one, as every call takes them. */
+#define PLAIN slots, SHEET_SLOTS, counts, SHEET_COUNTS, tallies, SHEET_TALLIES
+#define STORE PLAIN, balance, TIMED_BALANCE
 
 /* The entry of a boat: her finish time in the upper half, her sail number in the lower. */
 static uint64_t finish(uint32_t time, uint32_t sail) {
@@ -56,10 +58,16 @@ static void display(void) {
     accepted("read", timed_read(STORE, 0, n - 1, output, SHEET_ENTRIES, answer, 2));
     for (i = 0; i < n; i++) {
         accepted("place", timed_place(STORE, i, answer, 3));
-        printf("%" PRIu64 " ", answer[0]);
-        print_points(answer[1], answer[2]);
-        printf(" %" PRIu64 " %" PRIu64 "\n", (output[i] & ~SHEET_TIED) >> 32, output[i] & UINT32_MAX);
+        print_place(answer);
+        printf(" %" PRIu64 " %" PRIu64 "\n", (output[i] & ~(SHEET_TIED | SHEET_RETIRED)) >> 32, output[i] & UINT32_MAX);
     }
+}
+
+/* A boat retires: she goes out and comes in again with the bit. */
+static void retire(uint32_t time, uint32_t sail) {
+    accepted("find", timed_find(STORE, finish(time, sail), answer, 2));
+    delete((size_t)answer[1]);
+    insert(finish(time, sail) | SHEET_RETIRED);
 }
 
 /* Finishes in the order in which they come in. Sail numbers 42 and 7 have the same time and did not tie; 400 and 311 tied, which the entry of
@@ -80,42 +88,53 @@ static void race(void) {
     delete((size_t)answer[1]);
     ask(3605, 42);
     display();
+    retire(3605, 7);
+    ask(3605, 7);
+    display();
 }
 
 /* What the calls are refused by. */
 static void refusals(void) {
     printf("entered again: %zu\n", timed_insert(STORE, finish(3605, 7), tape, waiting, answer, 2));
     printf("entered again, tied: %zu\n", timed_insert(STORE, finish(3605, 7) | SHEET_TIED, tape, waiting, answer, 2));
+    printf("entered again, retired: %zu\n", timed_insert(STORE, finish(3590, 2024) | SHEET_RETIRED, tape, waiting, answer, 2));
     printf("entry zero: %zu, %zu\n", timed_insert(STORE, 0, tape, waiting, answer, 2), timed_find(STORE, 0, answer, 2));
-    printf("the bit alone: %zu, %zu\n", timed_insert(STORE, SHEET_TIED, tape, waiting, answer, 2), timed_find(STORE, SHEET_TIED, answer, 2));
+    printf("a bit alone: %zu, %zu\n", timed_insert(STORE, SHEET_TIED, tape, waiting, answer, 2), timed_find(STORE, SHEET_RETIRED, answer, 2));
     printf("rank too high: %zu\n", timed_place(STORE, 5, answer, 3));
     printf("no tape: %zu\n", timed_insert(STORE, finish(3605, 8), tape, 0, answer, 2));
     printf("answer too short: %zu, %zu\n", timed_check(STORE, answer, 1), timed_place(STORE, 0, answer, 2));
-    printf("third slice too short: %zu\n", timed_check(slots, SHEET_SLOTS, counts, SHEET_COUNTS, balance, TIMED_BALANCE - 1, answer, 2));
+    printf("third slice too short: %zu\n", timed_check(PLAIN, balance, TIMED_BALANCE - 1, answer, 2));
     balance[0] = 1;
-    printf("third slice wrong: %zu\n", timed_check(STORE, answer, 2));
+    printf("third slice wrong: %zu", timed_check(STORE, answer, 2));
+    tallies[1]++;
+    printf(", and a tally: %zu\n", timed_check(STORE, answer, 2));
+    tallies[1]--;
     balance[0] = 0;
 }
 
 /* The boat that comes in as number i of a full sheet: every sail number from 1 to SHEET_ENTRIES once, out of order. Boats of the same time
- * tied. */
+ * tied. Of each 16 boats two have retired, one between boats that tied and one before such boats. */
 static uint64_t boat(size_t i) {
     uint32_t sail = (uint32_t)(i * 389 % SHEET_ENTRIES) + 1;
 
-    return finish(3600 + sail / 4, sail) | (sail % 4 != 0 ? SHEET_TIED : 0);
+    return finish(3600 + sail / 4, sail) | (sail % 4 != 0 ? SHEET_TIED : 0) | (sail % 16 == 6 || sail % 16 == 8 ? SHEET_RETIRED : 0);
 }
 
-/* The points of all boats together, which ties do not change, and the number of boats of each tied group, counted once for each of them. */
+/* The points of all boats together, which ties do not change, the number of boats of each tied group, counted once for each of them, and the
+ * retired boats. */
 static void add_up(void) {
-    uint64_t half_points = 0, boats = 0;
+    uint64_t half_points = 0, boats = 0, retired = 0;
     size_t i;
 
     for (i = 0; i < SHEET_ENTRIES; i++) {
         accepted("place", timed_place(STORE, i, answer, 3));
         half_points += 2 * answer[1] / answer[2];
-        boats += answer[2];
+        if (answer[0] == 0)
+            retired++;
+        else
+            boats += answer[2];
     }
-    printf("all points: %" PRIu64 ", boats of the groups: %" PRIu64 "\n", half_points / 2, boats);
+    printf("all points: %" PRIu64 ", boats of the groups: %" PRIu64 ", retired: %" PRIu64 "\n", half_points / 2, boats, retired);
 }
 
 /* Fills the sheet, finds each boat and each balance entry, adds the points up, and strikes the first half out. */
@@ -126,7 +145,7 @@ static void fill(void) {
     for (i = 0; i < SHEET_ENTRIES; i++)
         insert(boat(i));
     for (i = 0; i < SHEET_ENTRIES; i++) {
-        accepted("find", timed_find(STORE, boat(i) ^ SHEET_TIED, answer, 2));
+        accepted("find", timed_find(STORE, boat(i) ^ (i % 2 == 0 ? SHEET_TIED : SHEET_RETIRED), answer, 2));
         found += answer[0] == 1 && answer[1] + 1 == (boat(i) & UINT32_MAX);
     }
     printf("found at their ranks: %zu\n", found);
@@ -137,8 +156,10 @@ static void fill(void) {
         }
     printf("balance entries that are absent: %zu\n", absent);
     balance[1] ^= SHEET_TIED;
-    printf("the other bit in the third slice: %zu\n", timed_check(STORE, answer, 2));
-    balance[1] ^= SHEET_TIED;
+    printf("another bit in the third slice: %zu", timed_check(STORE, answer, 2));
+    balance[1] ^= SHEET_TIED ^ SHEET_RETIRED;
+    printf(", %zu\n", timed_check(STORE, answer, 2));
+    balance[1] ^= SHEET_RETIRED;
     add_up();
     printf("one boat too many: %zu\n", timed_insert(STORE, finish(1, 1), tape, waiting, answer, 2));
     printf("entered again: %zu\n", timed_insert(STORE, boat(5), tape, waiting, answer, 2));

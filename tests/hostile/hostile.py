@@ -74,7 +74,8 @@ class Sheet:
     def answer_7(self, line):
         if int(line[2:], 16) >= (self.entry is not None):
             return self.head(0x87, 4)
-        return self.head(0x87, 0)[:-1] + b"0001000000010001\n"
+        retired = int(self.entry, 16) >> 62 & 1
+        return self.head(0x87, 0)[:-1] + (b"0000000000000001\n" if retired else b"0001000000010001\n")
 
 
 def expected(data):
@@ -105,7 +106,8 @@ def right(data):
 
 rng = random.Random(20)
 # frames that need no coin, and lines close to frames
-VALID = [b"010000000000000000000A", b"020000", b"0300000000", b"04" + b"0123ABCD" * 16, b"05", b"06", b"070000", b"010000FFFFFFFFFFFFFFFF"]
+VALID = [b"010000000000000000000A", b"020000", b"0300000000", b"04" + b"0123ABCD" * 16, b"05", b"06", b"070000", b"010000FFFFFFFFFFFFFFFF",
+         b"0100004000000000000000"]
 CLOSE = [b"", b"0", b"00", b"08", b"04", b"05 ", b" 05", b"05\r", b"0a", b"010000000000000000000a", b"02000", b"0200000", b"04" + b"0" * 136,
          b"04" + b"0" * 128, b"03000000000", b"5", b"\0" * 10, b"\xff" * 130, b"0" * 255, b"0" * 256, b"0" * 257, b"05" + b"0" * 254, b"05\0"]
 

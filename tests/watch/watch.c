@@ -16,9 +16,11 @@
 #define BYTES (SHEET_SLOTS * sizeof(uint64_t))
 #define MAPPED 36864 /* BYTES in whole pages */
 #define MOST (2 * BYTES) /* what is zeroed may be written byte by byte */
+#define STORE slots, SHEET_SLOTS, counts, SHEET_COUNTS, tallies, SHEET_TALLIES
 
 static uint64_t *slots;
 static uint16_t counts[SHEET_COUNTS];
+static uint16_t tallies[SHEET_TALLIES];
 static volatile size_t offset[MOST]; /* in bytes, of each write of a call, in order */
 static volatile size_t writes;
 static size_t watched_seen, leaves_seen, sizes_seen, zeroed_seen;
@@ -93,6 +95,11 @@ static uint32_t word(void) {
   return (uint32_t)(state >> 32);
 }
 
+/* An entry; every second one is that of a retired boat. */
+static uint64_t entry(void) {
+  return (uint64_t)word() << 31 | 1;
+}
+
 /* An insert or a delete at a random rank, watched up to N = 200 and at times from there on. Returns the new N. */
 static size_t change(size_t n, int insert) {
   int watched = n < 200 || word() % 16 == 0;
@@ -104,9 +111,9 @@ static size_t change(size_t n, int insert) {
   writes = 0;
   mprotect(slots, MAPPED, watched ? PROT_READ : PROT_READ | PROT_WRITE);
   if (insert)
-    number = sheet_insert(slots, SHEET_SLOTS, counts, SHEET_COUNTS, word() % (n + 1), 1 + (uint64_t)word(), tape, SHEET_WORDS, answer, 2);
+    number = sheet_insert(STORE, word() % (n + 1), entry(), tape, SHEET_WORDS, answer, 2);
   else
-    number = sheet_delete(slots, SHEET_SLOTS, counts, SHEET_COUNTS, word() % n, tape, SHEET_WORDS, answer, 2);
+    number = sheet_delete(STORE, word() % n, tape, SHEET_WORDS, answer, 2);
   if (number != SHEET_ACCEPTED || answer[0] != (insert ? n + 1 : n - 1) || (watched && !one_pass(counts[0]))) {
     printf("watch: N %zu, M %zu to %u: returned %zu, %zu writes from byte %zu on\n", n, m, (unsigned)counts[0], number, writes, offset[0]);
     exit(1);

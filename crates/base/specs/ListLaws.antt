@@ -99,6 +99,18 @@ module _ {A : Type 0} where
       pub joined-drop : drop b (take i xs ++ ys) ≡ take (i - b) (drop b xs) ++ ys
       joined-drop = drop-append-le b (take i xs) ys (rw (length-take-le i xs inside) before) ∙ rw (drop-take b i xs)
 
+  -- The parts of a list with every member replaced.
+  module _ {B : Type 0} (f : A → B) where
+    pub map-take : (n : ℕ) (xs : List A) → take n (map f xs) ≡ map f (take n xs)
+    map-take zero xs = refl
+    map-take (suc n) [] = refl
+    map-take (suc n) (x ∷ xs) = ap (λ (ys : List B). f x ∷ ys) (map-take n xs)
+
+    pub map-drop : (n : ℕ) (xs : List A) → drop n (map f xs) ≡ map f (drop n xs)
+    map-drop zero xs = refl
+    map-drop (suc n) [] = refl
+    map-drop (suc n) (x ∷ xs) = map-drop n xs
+
 -- ---- lists of one value
 
 module _ {A : Type 0} (x : A) where

@@ -12,13 +12,14 @@ use Rattle.store_layout.specs.declared.Capacity.{Capacity}
 use Rattle.store_layout.specs.Layout.{Store}
 use Rattle.store_layout.specs.Decode.{numbered}
 use Rattle.store_part.specs.LayPart.{partEntries, layPart, LayReady}
-use Rattle.call_outcomes.specs.Plain.{plain, changing}
+use Rattle.call_outcomes.specs.PlainCalls.{changing}
+use Rattle.call_outcomes.specs.Untallied.{untallied}
 use Rattle.call_open.specs.Opening.{Admitted}
 use Rattle.call_change.specs.declared.DrawnChange.{DrawnChange}
 
 -- The change goes on with a sheet of n entries and the size parameter m, and the work array has its counts by range number.
 pub record ChangeReady (cap : Capacity) (change : Change) (e n m : ℕ) (store : Store) (work : List ℕ) : Type 0 where
-  pub admitted : Admitted (plain cap) (changing change e) store n m
+  pub admitted : Admitted (untallied cap) (changing change e) store n m
   pub copied : work ≡ numbered store
 
 -- The entries of the part before the change.

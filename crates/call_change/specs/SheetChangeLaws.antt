@@ -1,9 +1,10 @@
 -- An insert or delete that no cause before 7 refuses: what its steps ask, and what it comes to.
 use mathlib.Core.Path.{_≡_, refl, sym, _∙_, ap, ap₂, subst}
+use mathlib.Core.Logic.{_≢_, ⊎-elim}
 use mathlib.Core.List.{List, []}
-use Prim.Native.Nat.{ℕ, _-_, _*_, _^_, _≤_, _<_}
+use Prim.Native.Nat.{ℕ, _+_, _-_, _*_, _^_, _≤_, _<_}
 use native.Mathlib.Omega.{arith}
-use lib.ListN.{length, getD}
+use lib.ListN.{length, getD, take, drop}
 use Rattle.base.specs.Lists.{Every}
 use Rattle.draw_shares.specs.Tape.{Ran, ran, ended, runAt}
 use Rattle.draw_shares.specs.TapeLaws.{run-ends}
@@ -11,7 +12,7 @@ use Rattle.tree_sizes.specs.Sizes.{height}
 use Rattle.tree_rules.specs.declared.Change.{Change}
 use Rattle.tree_rules.specs.Tree.{Shape, IsShape}
 use Rattle.tree_rules.specs.Compare.{countAfter}
-use Rattle.tree_rules.specs.Rules.{InReach, update}
+use Rattle.tree_rules.specs.Rules.{rankOf, InReach, update}
 use Rattle.tree_rules.specs.ChangeList.{changeList}
 use Rattle.tree_rules.specs.ChangeListLaws.{length-changed}
 use Rattle.tree_rules.specs.ShapeLaws.{update-ends}
@@ -19,8 +20,8 @@ use Rattle.tree_counts.specs.declared.Part.{Part}
 use Rattle.tree_counts.specs.Ranges.{Perfect}
 use Rattle.tree_counts.specs.Counts.{shapeCounts, shapeIn}
 use Rattle.tree_counts.specs.RangeLaws.{balanced-perfect}
-use Rattle.tree_counts.specs.ShapeCountLaws.{length-shapeCounts, shapeCounts-size, shapeIn-shapeCounts}
-use Rattle.tree_counts.specs.Confined.{Confined}
+use Rattle.tree_counts.specs.ShapeCountLaws.{length-shapeCounts, shapeCounts-size, shapeCounts-unused, shapeIn-shapeCounts}
+use Rattle.tree_counts.specs.Confined.{Within, Confined}
 use Rattle.tree_walk.specs.declared.Updated.{Updated}
 use Rattle.tree_walk.specs.declared.Updated.the-variants as updated
 use Rattle.tree_walk.specs.Updated.{UpdatedAs}
@@ -28,21 +29,24 @@ use Rattle.tree_update.specs.Update.{UpdateReady}
 use Rattle.store_layout.specs.declared.Capacity.{Capacity}
 use Rattle.store_layout.specs.Layout.{Store, laySlots, layCounts, layOut}
 use Rattle.store_order.specs.CountOrder.{countOrder}
+use Rattle.store_order.specs.CountOrderLaws.{countOrder-size}
 use Rattle.store_layout.specs.Sheet.{IsContents}
 use Rattle.store_layout.specs.Decode.{Contents, numbered}
 use Rattle.store_layout.specs.Room.{CapacityReady}
 use Rattle.store_layout.specs.SheetLaws.{decode-sound, length-slots, length-counts, numbered-layOut}
-use Rattle.store_part.specs.Plan.{Plan}
+use Rattle.store_part.specs.Plan.{partFrom, partLength, PartIn, Plan}
 use Rattle.store_part.specs.PlanLaws.{plan}
 use Rattle.store_part.specs.LayPart.{partEntries, layEntries, layPart, LayReady}
+use Rattle.store_part.specs.KeepLaws.{slots-before, slots-behind}
 use Rattle.store_part.specs.CountBounds.{shapeCounts-every}
 use Rattle.call_outcomes.specs.declared.Cause.the-variants.{TapeEnded}
 use Rattle.call_outcomes.specs.declared.Answer.the-variants.{Changed, Refused}
 use Rattle.call_outcomes.specs.Kind.{applied}
 use Rattle.call_outcomes.specs.Outcome.{refused, outcome}
 use Rattle.call_outcomes.specs.ChangeLaws.{outcome-drawn, outcome-ended}
-use Rattle.call_outcomes.specs.Plain.{plainChange, editOf, plain, changing, storeOf, outcomeOf}
-use Rattle.call_outcomes.specs.PlainLaws.{change-within, edit-change, edit-list}
+use Rattle.call_outcomes.specs.PlainCalls.{plainChange, editOf, changing}
+use Rattle.call_outcomes.specs.Untallied.{untallied, storeOf, outcomeOf}
+use Rattle.call_outcomes.specs.PlainCallLaws.{change-within, edit-change, edit-list}
 use Rattle.call_open.specs.AdmittedLaws.{change-decoded, change-free}
 use Rattle.call_change.specs.declared.DrawnChange.{DrawnChange}
 use Rattle.call_change.specs.SheetChange.{ChangeReady, entriesBefore, WriteReady, written}
@@ -117,7 +121,7 @@ module _ {cap : Capacity} (ready : CapacityReady cap) {change : Change} {e n m :
 
   -- ---- what is known of the store
 
-  sound : IsContents cap (c .list) (c .shape) × (storeOf slots counts ≡ layOut cap (c .list) (c .shape))
+  pub sound : IsContents cap (c .list) (c .shape) × (storeOf slots counts ≡ layOut cap (c .list) (c .shape))
   sound = decode-sound cap (storeOf slots counts) c (change-decoded (p .admitted))
 
   pub few : n ≤ cap .entries
@@ -138,7 +142,7 @@ module _ {cap : Capacity} (ready : CapacityReady cap) {change : Change} {e n m :
   counts-fit : 2 * 2 ^ height (c .shape .size) ≤ cap .counts
   counts-fit = ready .roomy .counts-fit n (c .shape .size) few (shape-n .allowed)
 
-  slots-are : slots ≡ laySlots (cap .slots) (c .list) (c .shape)
+  pub slots-are : slots ≡ laySlots (cap .slots) (c .list) (c .shape)
   unfolding layOut
   slots-are = ap (λ (t : Store). t .slots) (sound .1)
 
@@ -149,7 +153,7 @@ module _ {cap : Capacity} (ready : CapacityReady cap) {change : Change} {e n m :
       ∙ numbered-layOut cap (c .list) (c .shape) (sound .0) (ready .roomy)
       ∙ ap (λ (k : ℕ). shapeCounts (cap .counts) k (c .shape)) (p .admitted .count)
 
-  work-length : length work ≡ cap .counts
+  pub work-length : length work ≡ cap .counts
   work-length = rw work-are (length-shapeCounts (cap .counts) n (c .shape))
 
   slots-length : length slots ≡ cap .slots
@@ -189,11 +193,11 @@ module _ {cap : Capacity} (ready : CapacityReady cap) {change : Change} {e n m :
     -- ---- the tape ended
 
     pub change-ended : answer ≡ updated.Ended
-        → outcomeOf (Refused TapeEnded) slots counts [] ≡ outcome (plain cap) (changing change e) tape (storeOf slots counts) []
+        → outcomeOf (Refused TapeEnded) slots counts [] ≡ outcome (untallied cap) (changing change e) tape (storeOf slots counts) []
     unfolding refused
     change-ended h =
         sym
-        (outcome-ended (plain cap) (plainChange change e) tape (storeOf slots counts) c (p .admitted .decided)
+        (outcome-ended (untallied cap) (plainChange change e) tape (storeOf slots counts) c (p .admitted .decided)
         (run-is ∙ answer-ended change n (c .shape) (runAt (update change n (c .shape)) tape 0) answer (cap .counts) work′ updated-as h))
 
     -- ---- everything was drawn
@@ -256,6 +260,25 @@ module _ {cap : Capacity} (ready : CapacityReady cap) {change : Change} {e n m :
         room = rw (new-size, work′-length) new-fit;
       }
 
+      -- what is known of the part, and of the counts after the change
+      pub part-inside : PartIn m′ part
+      part-inside = rw (← drawn .size-is) (planned .new-part)
+
+      pub counts-unused : (k : ℕ) → 2 * 2 ^ height m′ ≤ k → getD work′ k 0 ≡ 0
+      counts-unused k behind =
+          ap (λ (xs : List ℕ). getD xs k 0) (drawn .counts-are)
+          ∙ shapeCounts-unused (height (drawn .shape .size)) (cap .counts) (countAfter change n) (drawn .shape)
+          (balanced-perfect (drawn .shape .size) (height (drawn .shape .size)) 0 (countAfter change n) (drawn .shape .tree) (new-shape .balanced)) new-fit k
+          (rw (drawn .size-is) behind)
+
+      pub size-kept : part .range ≢ 1 → m′ ≡ m
+      unfolding Confined
+      size-kept other =
+          ⊎-elim (λ (whole : part ≡ record { range = 1; depth = 0; rank = rankOf change }). absurd (other (ap (λ (x : Part). x .range) whole)))
+          (λ (w : (drawn .shape .size ≡ c .shape .size) × Within 1 0 change (c .shape .tree) (drawn .shape .tree) part).
+          sym (drawn .size-is) ∙ w .0 ∙ p .admitted .size)
+          (drawn .confined)
+
       pub before-few : length (entriesBefore d slots) ≤ cap .entries
       before-few =
           omega (
@@ -264,12 +287,34 @@ module _ {cap : Capacity} (ready : CapacityReady cap) {change : Change} {e n m :
             sound .0 .room,
           )
 
+      -- the new size parameter stands at number 0
+      pub size-written : {slots′ counts′ : List ℕ} → storeOf slots′ counts′ ≡ written d work′ (storeOf slots counts) → getD counts′ 0 0 ≡ m′
+      unfolding written
+      size-written store-is =
+          ap (λ (t : Store). getD (t .counts) 0 0) store-is ∙ countOrder-size (height (getD work′ 0 0)) work′ ∙ new-size ∙ drawn .size-is
+
+      -- where it is a part of the sheet, the slots before it and behind it stay
+      module _ (wide : 2 * cap .entries < 2 ^ 16) (other : part .range ≢ 1) {slots′ counts′ : List ℕ}
+          (store-is : storeOf slots′ counts′ ≡ written d work′ (storeOf slots counts)) where
+        lay-ready : LayReady m′ m′ part change work′ slots
+        lay-ready = subst (λ (k : ℕ). LayReady k m′ part change work′ slots) (sym (size-kept other)) (write-ready wide .part-ready)
+
+        new-slots-are : slots′ ≡ layPart m′ m′ part change e work′ slots
+        unfolding written
+        new-slots-are = ap (λ (t : Store). t .slots) store-is ∙ ap (λ (k : ℕ). layPart k m′ part change e work′ slots) (sym (size-kept other))
+
+        pub kept-before : take (partFrom m′ part) slots ≡ take (partFrom m′ part) slots′
+        kept-before = rw new-slots-are (sym (slots-before lay-ready e))
+
+        pub kept-behind : drop (partFrom m′ part + partLength m′ part) slots ≡ drop (partFrom m′ part + partLength m′ part) slots′
+        kept-behind = rw new-slots-are (sym (slots-behind lay-ready e))
+
       pub change-done : (after : ℕ) (slots′ counts′ : List ℕ) → after ≡ countAfter change n
           → storeOf slots′ counts′ ≡ written d work′ (storeOf slots counts)
-          → outcomeOf (Changed after next) slots′ counts′ [] ≡ outcome (plain cap) (changing change e) tape (storeOf slots counts) []
+          → outcomeOf (Changed after next) slots′ counts′ [] ≡ outcome (untallied cap) (changing change e) tape (storeOf slots counts) []
       unfolding layOut layCounts written
       change-done after slots′ counts′ a store-is =
-          laid ∙ sym (outcome-drawn (plain cap) (plainChange change e) tape (storeOf slots counts) c (p .admitted .decided) (drawn .shape) next (run-is ∙ drawn .run-is))
+          laid ∙ sym (outcome-drawn (untallied cap) (plainChange change e) tape (storeOf slots counts) c (p .admitted .decided) (drawn .shape) next (run-is ∙ drawn .run-is))
         where
           number : after ≡ countAfter (editOf (plainChange change e) .change) (length (c .list))
           number = a ∙ rw (edit-change change e, p .admitted .count)

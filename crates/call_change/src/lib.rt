@@ -2,7 +2,7 @@
 ghost use mathlib.Core.Path.{_≡_};
 ghost use Prim.Native.Nat.{_+_, _<_};
 ghost use lib.ListN.{length};
-ghost use Rattle.call_outcomes.specs.Plain.{storeOf};
+ghost use Rattle.call_outcomes.specs.Untallied.{storeOf};
 ghost use Rattle.call_change.specs.SheetChange.{entriesBefore, WriteReady, written};
 use tree_counts::Part;
 use tree_rules::Change;
@@ -37,5 +37,7 @@ pub fn write_change(
     let part = drawn.part;
     let change = drawn.change;
     store_part::lay_part(slots, old, new, part, change, drawn.entry, work, list);
-    store_counts::write_counts(work, counts);
+    let m = work[0] as usize;
+    let size = Size { m: m };
+    store_counts::write_counts(size, work, counts);
 }

@@ -9,7 +9,8 @@ use Rattle.call_outcomes.specs.declared.Cause.the-variants.{EntryZero, Rank, Fu
 use Rattle.call_outcomes.specs.declared.Answer.the-variants.{Refused}
 use Rattle.call_outcomes.specs.Kind.{clear, change, ask}
 use Rattle.call_outcomes.specs.Causes.{argumentCause}
-use Rattle.call_outcomes.specs.Plain.{insertAt, deleteAt, changeCause, Question, readRanks, placeOf, countOf, questionCause, replyTo, plain, Call}
+use Rattle.call_outcomes.specs.PlainCalls.{insertAt, deleteAt, changeCause, Question, readRanks, placeOf, countOf, questionCause, replyTo, Call}
+use Rattle.call_outcomes.specs.Plain.{plain}
 use Rattle.call_outcomes.specs.Clubs.{clubs}
 use Rattle.call_history.specs.Supply.{Suppliable, first-other, none-ended}
 

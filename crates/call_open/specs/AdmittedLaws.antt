@@ -7,19 +7,23 @@ use native.Mathlib.Omega.{arith}
 use lib.ListN.{length}
 use Rattle.store_layout.specs.declared.Capacity.{Capacity}
 use Rattle.store_layout.specs.Layout.{Store}
-use Rattle.store_layout.specs.Decode.{Contents, decode}
+use Rattle.store_layout.specs.Decode.{Contents, decode, numbered}
+use Rattle.store_tallies.specs.Tallies.{layTallies}
 use Rattle.call_outcomes.specs.declared.Cause.{Cause}
 use Rattle.call_outcomes.specs.declared.Answer.the-variants.{Refused}
-use Rattle.call_outcomes.specs.Kind.{change, ask, Kind, CallFor, StoreFor}
+use Rattle.call_outcomes.specs.Kind.{View, change, ask, Kind, CallFor, StoreFor}
 use Rattle.call_outcomes.specs.Causes.{Decision, refuse, accept, storeDecision, lookedAt, argumentCause, byArguments, decision}
 use Rattle.call_outcomes.specs.Outcome.{refused, outcome}
 use Rattle.call_outcomes.specs.DecisionLaws.{store-accepted, outcome-refused}
 use Rattle.call_outcomes.specs.AcceptedLaws as accepted
-use Rattle.call_outcomes.specs.Plain.{plainView, PlainChange, changeCause, plain}
-use Rattle.call_outcomes.specs.PlainLaws.{found-decode}
+use Rattle.call_outcomes.specs.PlainCalls.{PlainChange, changeCause}
+use Rattle.call_outcomes.specs.Untallied.{untalliedView, untallied}
+use Rattle.call_outcomes.specs.UntalliedLaws.{found-decode}
+use Rattle.call_outcomes.specs.SliceLaws.{SliceHolds, slice-holds}
+use Rattle.call_outcomes.specs.Plain.{tallySlice, plainView, PlainStore}
 use Rattle.call_open.specs.declared.Opened.{Opened}
 use Rattle.call_open.specs.declared.Opened.the-variants as opened
-use Rattle.call_open.specs.Opening.{openedAs, Opening, admittedBy, admitted, Admitted, OpenedSheet}
+use Rattle.call_open.specs.Opening.{openedAs, Opening, plainNumbers, OpenedStore, admittedBy, admitted, Admitted, OpenedSheet}
 
 -- ---- the causes of the arguments
 
@@ -47,21 +51,57 @@ module _ (kind : Kind) (store : StoreFor kind) {answer after : Opened} (found : 
   unfolding decision lookedAt argumentCause
   question-opened q same is = is ∙ ap (admitted causes) found ∙ opened-admitted causes (kind .calls .questionCause q) same (storeDecision (kind .view) store)
 
--- ---- a plain store
+-- ---- a sheet that was found
+
+-- It has these numbers.
+pub opened-store : (view : View) (numbers : view .Store → List ℕ) (store : view .Store) {found : Opened} {work : List ℕ} → Opening view numbers store found work
+    → (n m : ℕ) → found ≡ opened.Sheet n m → OpenedStore view numbers store n m work
+unfolding openedAs
+opened-store view numbers store {work = work} w n m e = go (storeDecision view store) refl (sym (w .found) ∙ e)
+  where
+    go : (d : Decision) → storeDecision view store ≡ d → openedAs d ≡ opened.Sheet n m → OpenedStore view numbers store n m work
+    go (refuse cause) looked h = let z : _≡_ {A = ℕ} 0 1 = cc in absurd (omega arith)
+    go (accept c) looked h = record { contents = c; decided = looked; count = cc; size = cc; copied = w .copied e }
+
+-- ---- slots and counts
 
 module _ (cap : Capacity) (store : Store) where
   -- A store that decides nothing holds these contents.
-  pub plain-decoded : (c : Contents) → storeDecision (plainView cap) store ≡ accept c → decode cap store ≡ some c
-  plain-decoded c h = found-decode cap store c (store-accepted (plainView cap) store c h .1)
+  pub plain-decoded : (c : Contents) → storeDecision (untalliedView cap) store ≡ accept c → decode cap store ≡ some c
+  plain-decoded c h = found-decode cap store c (store-accepted (untalliedView cap) store c h .1)
 
-  -- A sheet that was found is a plain sheet with these numbers.
-  pub opened-sheet : {found : Opened} {work : List ℕ} → Opening cap store found work → (n m : ℕ) → found ≡ opened.Sheet n m → OpenedSheet cap store n m work
-  unfolding openedAs
-  opened-sheet {work} w n m e = go (storeDecision (plainView cap) store) refl (sym (w .found) ∙ e)
-    where
-      go : (d : Decision) → storeDecision (plainView cap) store ≡ d → openedAs d ≡ opened.Sheet n m → OpenedSheet cap store n m work
-      go (refuse cause) looked h = let z : _≡_ {A = ℕ} 0 1 = cc in absurd (omega arith)
-      go (accept c) looked h = record { contents = c; decided = looked; decoded = plain-decoded c looked; count = cc; size = cc; copied = w .copied e }
+  pub opened-sheet : {found : Opened} {work : List ℕ} → Opening (untalliedView cap) numbered store found work → (n m : ℕ) → found ≡ opened.Sheet n m
+      → OpenedSheet cap store n m work
+  opened-sheet w n m e =
+      let o = opened-store (untalliedView cap) numbered store w n m e in
+      record {
+        contents = o .contents;
+        decided = o .decided;
+        decoded = plain-decoded (o .contents) (o .decided);
+        count = o .count;
+        size = o .size;
+        copied = o .copied;
+      }
+
+-- ---- a plain sheet
+
+-- Its slots and counts are a sheet, and its tallies are those of the contents.
+module _ {cap : Capacity} {store : PlainStore} {n m : ℕ} {work : List ℕ} (w : OpenedStore (plainView cap) plainNumbers store n m work) where
+  pub held : SliceHolds (untalliedView cap) (tallySlice cap) store (w .contents)
+  held = slice-holds (untalliedView cap) (tallySlice cap) store (w .contents) (w .decided)
+
+  abbrev pub plain-sheet : OpenedSheet cap (store .sheet) n m work
+  plain-sheet = record {
+    contents = w .contents;
+    decided = held .decided;
+    decoded = plain-decoded cap (store .sheet) (w .contents) (held .decided);
+    count = w .count;
+    size = w .size;
+    copied = w .copied;
+  }
+
+  pub plain-tallies : store .slice ≡ layTallies (cap .counts) (w .contents .list) (w .contents .shape)
+  plain-tallies = held .laid
 
 -- What is left is what was found.
 pub found-sheet : (causes : ℕ → Option Cause) (o : Opened) {n m : ℕ} → admitted causes o ≡ opened.Sheet n m → o ≡ opened.Sheet n m
@@ -108,7 +148,7 @@ module _ (kind : Kind) (call : CallFor kind) (store : StoreFor kind) {after : Op
 -- ---- a call that goes on
 
 module _ {cap : Capacity} {store : Store} {n m : ℕ} where
-  module _ {c : PlainChange} (w : Admitted (plain cap) (change c) store n m) where
+  module _ {c : PlainChange} (w : Admitted (untallied cap) (change c) store n m) where
     pub change-decoded : decode cap store ≡ some (w .contents)
     change-decoded = accepted.change-decoded cap store (w .contents) c (w .decided)
 

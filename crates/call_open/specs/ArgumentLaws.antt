@@ -11,7 +11,7 @@ use Rattle.tree_rules.specs.declared.Change.the-variants.{Insert, Delete}
 use Rattle.call_outcomes.specs.declared.Cause.{Cause}
 use Rattle.call_outcomes.specs.declared.Cause.the-variants.{EntryZero, Rank, Full, OutputShort}
 use Rattle.call_outcomes.specs.Causes.{firstOf}
-use Rattle.call_outcomes.specs.Plain.{insertAt, deleteAt, plainChange, changeCause, readRanks, placeOf, countOf, questionCause}
+use Rattle.call_outcomes.specs.PlainCalls.{insertAt, deleteAt, plainChange, changeCause, readRanks, placeOf, countOf, questionCause}
 use Rattle.call_open.specs.declared.Opened.{Opened}
 use Rattle.call_open.specs.declared.Opened.the-variants as opened
 use Rattle.call_open.specs.Opening.{admittedBy, admitted}

@@ -3,3 +3,5 @@ pub mod Opening
 pub mod OpeningLaws
 pub mod ArgumentLaws
 pub mod AdmittedLaws
+pub mod OpenedLaws
+pub mod SliceOpeningLaws

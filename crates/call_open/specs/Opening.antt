@@ -8,9 +8,10 @@ use Rattle.store_layout.specs.declared.Capacity.{Capacity}
 use Rattle.store_layout.specs.Layout.{Store}
 use Rattle.store_layout.specs.Decode.{Contents, decode, numbered}
 use Rattle.call_outcomes.specs.declared.Cause.{Cause}
-use Rattle.call_outcomes.specs.Kind.{Kind, CallFor, StoreFor}
+use Rattle.call_outcomes.specs.Kind.{View, Kind, CallFor, StoreFor}
 use Rattle.call_outcomes.specs.Causes.{Decision, refuse, accept, storeDecision, decision}
-use Rattle.call_outcomes.specs.Plain.{plainView}
+use Rattle.call_outcomes.specs.Untallied.{untalliedView}
+use Rattle.call_outcomes.specs.Plain.{PlainStore}
 use Rattle.call_open.specs.declared.Opened.{Opened}
 use Rattle.call_open.specs.declared.Opened.the-variants as opened
 
@@ -19,10 +20,23 @@ unfoldable pub openedAs : Decision → Opened
 openedAs (refuse cause) = opened.Refused cause
 openedAs (accept before) = opened.Sheet (length (before .list)) (before .shape .size)
 
--- The answer of the look, and the work array: where the store is a sheet it has the counts by range number.
-pub record Opening (cap : Capacity) (store : Store) (answer : Opened) (work : List ℕ) : Type 0 where
-  pub found : answer ≡ openedAs (storeDecision (plainView cap) store)
-  pub copied : {n m : ℕ} → answer ≡ opened.Sheet n m → work ≡ numbered store
+-- The answer of the look at a store of any view, and the work array: where the store is a sheet it has the counts by range number, which are
+-- the `numbers` of the store.
+pub record Opening (view : View) (numbers : view .Store → List ℕ) (store : view .Store) (answer : Opened) (work : List ℕ) : Type 0 where
+  pub found : answer ≡ openedAs (storeDecision view store)
+  pub copied : {n m : ℕ} → answer ≡ opened.Sheet n m → work ≡ numbers store
+
+-- The counts of a plain store by range number.
+abbrev pub plainNumbers : PlainStore → List ℕ
+plainNumbers store = numbered (store .sheet)
+
+-- The store is a sheet of n entries with the size parameter m, and the work array has its counts by range number.
+pub record OpenedStore (view : View) (numbers : view .Store → List ℕ) (store : view .Store) (n m : ℕ) (work : List ℕ) : Type 0 where
+  pub contents : Contents
+  pub decided : storeDecision view store ≡ accept contents
+  pub count : length (contents .list) ≡ n
+  pub size : contents .shape .size ≡ m
+  pub copied : work ≡ numbers store
 
 unfoldable pub admittedBy : Option Cause → ℕ → ℕ → Opened
 admittedBy (some cause) n m = opened.Refused cause
@@ -40,10 +54,10 @@ pub record Admitted (kind : Kind) (call : CallFor kind) (store : StoreFor kind) 
   pub count : length (contents .list) ≡ n
   pub size : contents .shape .size ≡ m
 
--- The store is a plain sheet of n entries with the size parameter m, and the work array has its counts by range number.
+-- Slots and counts are a sheet of n entries with the size parameter m, and the work array has its counts by range number.
 pub record OpenedSheet (cap : Capacity) (store : Store) (n m : ℕ) (work : List ℕ) : Type 0 where
   pub contents : Contents
-  pub decided : storeDecision (plainView cap) store ≡ accept contents
+  pub decided : storeDecision (untalliedView cap) store ≡ accept contents
   pub decoded : decode cap store ≡ some contents
   pub count : length (contents .list) ≡ n
   pub size : contents .shape .size ≡ m

@@ -21,8 +21,8 @@ use Rattle.store_layout.specs.RoomLaws.{counts-enough}
 use Rattle.store_layout.specs.SheetLaws.{decode-true, decode-false, size-refused, size-known, count-is}
 use Rattle.call_outcomes.specs.declared.Cause.the-variants.{Lengths, NotASheet}
 use Rattle.call_outcomes.specs.Causes.{byLengths, byFound, storeDecision}
-use Rattle.call_outcomes.specs.Plain.{rightLengths, foundBy, storeOf}
-use Rattle.call_outcomes.specs.PlainLaws.{lengths-right}
+use Rattle.call_outcomes.specs.Untallied.{rightLengths, foundBy, untalliedView, storeOf}
+use Rattle.call_outcomes.specs.UntalliedLaws.{lengths-right}
 use Rattle.call_open.specs.declared.Opened.the-variants as opened
 use Rattle.call_open.specs.Opening.{openedAs, Opening}
 
@@ -44,7 +44,7 @@ module _ (cap : Capacity) (slots counts : List ℕ) where
       go true = refl
       go false = refl
 
-  pub open-wrong : rightLengths cap store ≡ false → (work : List ℕ) → Opening cap store (opened.Refused Lengths) work
+  pub open-wrong : rightLengths cap store ≡ false → (work : List ℕ) → Opening (untalliedView cap) numbered store (opened.Refused Lengths) work
   unfolding storeDecision byLengths openedAs
   open-wrong h work = record { found = rw h; copied = λ e. let z : _≡_ {A = ℕ} 0 1 = cc in absurd (omega arith) }
 
@@ -54,7 +54,7 @@ module _ (cap : Capacity) (slots counts : List ℕ) where
 
     -- ---- no sheet
 
-    open-none : sheetTest cap store ≡ false → (work : List ℕ) → Opening cap store (opened.Refused NotASheet) work
+    open-none : sheetTest cap store ≡ false → (work : List ℕ) → Opening (untalliedView cap) numbered store (opened.Refused NotASheet) work
     unfolding storeDecision byLengths byFound foundBy openedAs
     open-none h work = record {
       found = rw (right, decode-false cap store h);
@@ -62,7 +62,7 @@ module _ (cap : Capacity) (slots counts : List ℕ) where
     }
 
     -- its size parameter is one that no sheet can have
-    pub open-large : {most : ℕ} → most ≡ 2 * cap .entries - 1 → most < getD counts 0 0 → (work : List ℕ) → Opening cap store (opened.Refused NotASheet) work
+    pub open-large : {most : ℕ} → most ≡ 2 * cap .entries - 1 → most < getD counts 0 0 → (work : List ℕ) → Opening (untalliedView cap) numbered store (opened.Refused NotASheet) work
     open-large is h work = open-none (size-refused cap store (rw is at h)) work
 
     module _ (ready : CapacityReady cap) where
@@ -90,10 +90,10 @@ module _ (cap : Capacity) (slots counts : List ℕ) where
             tested : sheetTest cap store ≡ test
             tested = sym (test-is ∙ rw back)
 
-            pub open-other : test ≡ false → Opening cap store (opened.Refused NotASheet) work
+            pub open-other : test ≡ false → Opening (untalliedView cap) numbered store (opened.Refused NotASheet) work
             open-other h = open-none (tested ∙ h) work
 
-            pub open-sheet : test ≡ true → Opening cap store (opened.Sheet (getD work 1 0) (getD counts 0 0)) work
+            pub open-sheet : test ≡ true → Opening (untalliedView cap) numbered store (opened.Sheet (getD work 1 0) (getD counts 0 0)) work
             unfolding storeDecision byLengths byFound foundBy openedAs numbered
             open-sheet h =
                 let found : decode cap store ≡ some (record { list = listOf store; shape = shapeOf store }) = decode-true cap store (tested ∙ h) in

@@ -1,12 +1,15 @@
 // A store looked at for a call: the causes before 7, in their order.
 ghost use mathlib.Core.Path.{_≡_};
 ghost use lib.ListN.{length};
+ghost use Rattle.store_layout.specs.Decode.{numbered};
 ghost use Rattle.store_layout.specs.Room.{CapacityReady};
-ghost use Rattle.call_outcomes.specs.Plain.{insertAt, plainChange, changeCause, readRanks, placeOf, questionCause, storeOf};
+ghost use Rattle.call_outcomes.specs.PlainCalls.{insertAt, plainChange, changeCause, readRanks, placeOf, questionCause};
+ghost use Rattle.call_outcomes.specs.Untallied.{untalliedView, storeOf};
 ghost use Rattle.call_open.specs.Opening.{Opening, admitted};
 use call_outcomes::Cause;
 use store_layout::Capacity;
 use tree_rules::Change;
+use tree_sizes::Size;
 
 // What a store is found to hold: a sheet of n entries with the size parameter m; or why the call is refused.
 pub enum Opened {
@@ -19,7 +22,7 @@ pub enum Opened {
 pub fn examine(cap: Capacity, slots: &[u64], counts: &[u16], work: &mut [u32]) -> Opened
     requires capacity { ⌜ CapacityReady cap ⌝ }
     requires room { ⌜ length (now work) ≡ cap .counts ⌝ }
-    ensures { λ r. ⌜ Opening cap (storeOf (now (slots .entry)) (now (counts .entry))) r (now (work .exit)) ⌝ }
+    ensures { λ r. ⌜ Opening (untalliedView cap) numbered (storeOf (now (slots .entry)) (now (counts .entry))) r (now (work .exit)) ⌝ }
 {
     if slots.len() != cap.slots {
         return Opened::Refused(Cause::Lengths);
@@ -31,7 +34,8 @@ pub fn examine(cap: Capacity, slots: &[u64], counts: &[u16], work: &mut [u32]) -
     if store_test::greatest_size(cap.entries) < m {
         return Opened::Refused(Cause::NotASheet);
     }
-    store_counts::read_counts(counts, work);
+    let size = Size { m: m };
+    store_counts::read_counts(size, counts, work);
     if !store_test::is_sheet(cap, slots, work) {
         return Opened::Refused(Cause::NotASheet);
     }

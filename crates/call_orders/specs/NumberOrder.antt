@@ -10,7 +10,8 @@ use Rattle.store_layout.specs.declared.Capacity.{Capacity}
 use Rattle.store_layout.specs.Layout.{Store, laySlots}
 use Rattle.store_layout.specs.Decode.{listOf, laidTest, Contents}
 use Rattle.call_outcomes.specs.Kind.{View, Kind}
-use Rattle.call_outcomes.specs.Plain.{viewOf, plainCalls}
+use Rattle.call_outcomes.specs.PlainCalls.{plainCalls}
+use Rattle.call_outcomes.specs.Untallied.{viewOf}
 
 -- The sheet of a list with a shape.
 unfoldable pub layNumbered : Capacity → List ℕ → Shape → Store

@@ -28,8 +28,9 @@ use Rattle.store_layout.specs.NumberedLaws.{numbered-size, numbered-given}
 use Rattle.store_layout.specs.SheetLaws.{laid-sound, decode-true, decode-false, size-refused, size-layOut, numbered-layOut}
 use Rattle.call_outcomes.specs.Kind.{holds}
 use Rattle.call_outcomes.specs.Outcome.{outcome}
-use Rattle.call_outcomes.specs.Plain.{IsList, RightLengths, rightLengths, foundBy, plainView, plainCalls, plain, Call}
-use Rattle.call_outcomes.specs.PlainLaws.{right-lengths, contents-of, plain-lawful}
+use Rattle.call_outcomes.specs.PlainCalls.{plainCalls, Call}
+use Rattle.call_outcomes.specs.Untallied.{IsList, RightLengths, rightLengths, foundBy, untalliedView, untallied}
+use Rattle.call_outcomes.specs.UntalliedLaws.{right-lengths, contents-of, untallied-lawful}
 use Rattle.call_orders.specs.Conversion.{toTree, Convertible, conversion, toTreeOrder}
 use Rattle.call_orders.specs.ConversionLaws.{conversion-size, conversion-done, length-conversion}
 use Rattle.call_orders.specs.NumberOrder.{layNumbered, numberedTest, decodeNumbered, numberedView, inNumberOrder}
@@ -153,9 +154,9 @@ module _ (cap : Capacity) (roomy : Roomy cap) where
 
   -- ---- the calls
 
-  order-converts : Converts (numberedView cap) (plainView cap) (toTreeOrder cap)
+  order-converts : Converts (numberedView cap) (untalliedView cap) (toTreeOrder cap)
   order-converts = record {
-    no-entry = plain-lawful cap roomy .view .no-entry;
+    no-entry = untallied-lawful cap roomy .view .no-entry;
     sound = numbered-sound cap;
     lengths = lengths-kept;
     holds-same = λ store right. ap foundBy (held store (right-lengths cap store right));
@@ -164,6 +165,6 @@ module _ (cap : Capacity) (roomy : Roomy cap) where
 
   -- All calls give the list, slots, answers and output that they gave: the outcome on a converted store is the converted outcome.
   pub calls-converted : (call : Call) (tape : List ℕ) (store : Store) (output : List ℕ)
-      → outcome (plain cap) call tape (toTreeOrder cap store) output ≡ converted (toTreeOrder cap) (outcome (inNumberOrder cap) call tape store output)
+      → outcome (untallied cap) call tape (toTreeOrder cap store) output ≡ converted (toTreeOrder cap) (outcome (inNumberOrder cap) call tape store output)
   calls-converted call tape store output =
-      outcome-converted (plainCalls (cap .entries)) (numberedView cap) (plainView cap) (toTreeOrder cap) order-converts (plain-lawful cap roomy .calls) tape call store output
+      outcome-converted (plainCalls (cap .entries)) (numberedView cap) (untalliedView cap) (toTreeOrder cap) order-converts (untallied-lawful cap roomy .calls) tape call store output

@@ -1,4 +1,4 @@
--- A call on a plain sheet that none of the causes before 7 refuses: what is known of its store and of its arguments.
+-- A call on a sheet without tallies that none of the causes before 7 refuses: what is known of its store and of its arguments.
 use mathlib.Core.Path.{_≡_, refl, sym, _∙_}
 use mathlib.Core.Option.{some, none}
 use Prim.Native.Nat.{_≤_}
@@ -10,26 +10,27 @@ use Rattle.store_layout.specs.SheetLaws.{decode-sound}
 use Rattle.call_outcomes.specs.Kind.{change, ask}
 use Rattle.call_outcomes.specs.Causes.{accept, storeDecision, lookedAt, argumentCause, decision}
 use Rattle.call_outcomes.specs.DecisionLaws.{store-accepted, accepted}
-use Rattle.call_outcomes.specs.Plain.{RightLengths, plainView, PlainChange, changeCause, Question, questionCause, plain, Call}
-use Rattle.call_outcomes.specs.PlainLaws.{right-lengths, found-decode}
+use Rattle.call_outcomes.specs.PlainCalls.{PlainChange, changeCause, Question, questionCause, Call}
+use Rattle.call_outcomes.specs.Untallied.{RightLengths, untalliedView, untallied}
+use Rattle.call_outcomes.specs.UntalliedLaws.{right-lengths, found-decode}
 
 module _ (cap : Capacity) (store : Store) (before : Contents) where
-  looked : (call : Call) → decision (plain cap) call store ≡ accept before → lookedAt (plain cap) call store ≡ storeDecision (plainView cap) store
+  looked : (call : Call) → decision (untallied cap) call store ≡ accept before → lookedAt (untallied cap) call store ≡ storeDecision (untalliedView cap) store
       → RightLengths cap store × (decode cap store ≡ some before)
   looked call w looks =
-      let s = store-accepted (plainView cap) store before (sym looks ∙ accepted (plain cap) call store before w .0) in
+      let s = store-accepted (untalliedView cap) store before (sym looks ∙ accepted (untallied cap) call store before w .0) in
       (right-lengths cap store (s .0), found-decode cap store before (s .1))
 
-  module _ (c : PlainChange) (w : decision (plain cap) (change c) store ≡ accept before) where
+  module _ (c : PlainChange) (w : decision (untallied cap) (change c) store ≡ accept before) where
     pub change-decoded : decode cap store ≡ some before
     unfolding lookedAt
     change-decoded = looked (change c) w refl .1
 
     pub change-free : changeCause (cap .entries) c (length (before .list)) ≡ none
     unfolding argumentCause
-    change-free = accepted (plain cap) (change c) store before w .1
+    change-free = accepted (untallied cap) (change c) store before w .1
 
-  module _ (q : Question) (w : decision (plain cap) (ask q) store ≡ accept before) where
+  module _ (q : Question) (w : decision (untallied cap) (ask q) store ≡ accept before) where
     pub question-lengths : RightLengths cap store
     unfolding lookedAt
     question-lengths = looked (ask q) w refl .0
@@ -40,7 +41,7 @@ module _ (cap : Capacity) (store : Store) (before : Contents) where
 
     pub question-free : questionCause q (length (before .list)) ≡ none
     unfolding argumentCause
-    question-free = accepted (plain cap) (ask q) store before w .1
+    question-free = accepted (untallied cap) (ask q) store before w .1
 
     -- A sheet has no more entries than the store has room for.
     pub entries-most : length (before .list) ≤ cap .entries

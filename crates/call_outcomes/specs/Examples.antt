@@ -23,7 +23,8 @@ use Rattle.call_outcomes.specs.declared.Answer.the-variants.{Changed, Re
 use Rattle.call_outcomes.specs.Kind.{applied}
 use Rattle.call_outcomes.specs.Causes.{firstOf, byLengths, byFound, storeDecision, lookedAt, argumentCause, byArguments, decision}
 use Rattle.call_outcomes.specs.Outcome.{edited, effect, answerOf, entriesOf, refused, finished, outcomeBy, outcome}
-use Rattle.call_outcomes.specs.Plain.{rightLengths, foundBy, changeCause, editOf, plain, insert}
+use Rattle.call_outcomes.specs.PlainCalls.{changeCause, editOf, insert}
+use Rattle.call_outcomes.specs.Untallied.{rightLengths, foundBy, untallied}
 
 tiny : Capacity
 tiny = record { entries = 3; slots = 6; counts = 4 }
@@ -32,7 +33,7 @@ one : Store
 one = record { slots = 0xA ∷ 0 ∷ 0 ∷ 0 ∷ 0 ∷ 0 ∷ []; counts = 1 ∷ 1 ∷ 0 ∷ 0 ∷ [] }
 
 -- the second insert of document 01's printed case by the leaf rule of document 02, and the same with a tape that ends
-written : map (λ tape. outcome (plain tiny) (insert 1 0xB) tape one []) ((1 ∷ []) ∷ [] ∷ [])
+written : map (λ tape. outcome (untallied tiny) (insert 1 0xB) tape one []) ((1 ∷ []) ∷ [] ∷ [])
     ≡ record { answer = Changed 2 1; store = record { slots = 0xA ∷ 0 ∷ 0xB ∷ 0 ∷ 0 ∷ 0 ∷ []; counts = 3 ∷ 2 ∷ 0 ∷ 0 ∷ [] }; output = [] }
     ∷ record { answer = Refused TapeEnded; store = one; output = [] }
     ∷ []

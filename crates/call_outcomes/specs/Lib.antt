@@ -3,6 +3,9 @@ pub mod Returns
 pub mod Kind
 pub mod Causes
 pub mod Outcome
+pub mod PlainCalls
+pub mod Untallied
+pub mod Slice
 pub mod Plain
 pub mod Clubs
 pub mod KindLaws
@@ -10,6 +13,9 @@ pub mod DecisionLaws
 pub mod ChangeLaws
 pub mod AnswerLaws
 pub mod LongerTapeLaws
+pub mod PlainCallLaws
+pub mod UntalliedLaws
+pub mod SliceLaws
 pub mod PlainLaws
 pub mod AcceptedLaws
 pub mod ClubsLaws

@@ -4,7 +4,7 @@ use mathlib.Core.List.{List, []}
 use Prim.Native.Nat.{ℕ}
 use Rattle.call_outcomes.specs.declared.Cause.{Cause}
 use Rattle.call_outcomes.specs.declared.Answer.the-variants.{Checked, Refused}
-use Rattle.call_outcomes.specs.Plain.{Question, countOf, questionCause, replyTo}
+use Rattle.call_outcomes.specs.PlainCalls.{Question, countOf, questionCause, replyTo}
 use Rattle.call_open.specs.declared.Opened.{Opened}
 use Rattle.call_open.specs.declared.Opened.the-variants as opened
 use Rattle.call_open.specs.Opening.{admitted}

@@ -5,10 +5,12 @@ use Prim.Native.Nat.{ℕ}
 use lib.ListN.{length, drop}
 use Rattle.store_layout.specs.declared.Capacity.{Capacity}
 use Rattle.store_layout.specs.Room.{CapacityReady}
+use Rattle.store_tallies.specs.Tallies.{rangeTallies, layTallies}
 use Rattle.call_outcomes.specs.declared.Answer.{Answer}
 use Rattle.call_outcomes.specs.declared.Answer.the-variants.{Refused}
 use Rattle.call_outcomes.specs.Kind.{Kind}
-use Rattle.call_outcomes.specs.Plain.{Question, questionCause, replyTo, writtenFor, storeOf}
+use Rattle.call_outcomes.specs.PlainCalls.{Question, questionCause, replyTo, writtenFor}
+use Rattle.call_outcomes.specs.Untallied.{storeOf}
 use Rattle.call_open.specs.declared.Opened.{Opened}
 use Rattle.call_open.specs.declared.Opened.the-variants as opened
 use Rattle.call_open.specs.Opening.{admitted, OpenedSheet}
@@ -43,6 +45,25 @@ pub record Readable (found : Opened) (slots work : List ℕ) : Type 0 where
   pub counts : List ℕ
   pub ready : CapacityReady cap
   pub sheet : (n m : ℕ) → found ≡ opened.Sheet n m → OpenedSheet cap (storeOf slots counts) n m work
+
+-- And these words are its tallies, in the order of the counts.
+pub record Tallied (found : Opened) (slots work words : List ℕ) : Type 0 where
+  pub readable : Readable found slots work
+  pub tallies : (n m : ℕ) (e : found ≡ opened.Sheet n m) → let c = readable .sheet n m e .contents in
+      words ≡ layTallies (readable .cap .counts) (c .list) (c .shape)
+
+-- Where a sheet was found, there are as many numbers as tallies.
+abbrev pub RoomFor : Opened → List ℕ → List ℕ → Type 0
+RoomFor found words numbers = (n m : ℕ) → found ≡ opened.Sheet n m → length numbers ≡ length words
+
+-- These slots are those of a plain sheet with the size parameter m; the work array has its counts, and these words are its tallies, by range number.
+pub record ByNumber (m : ℕ) (slots work words : List ℕ) : Type 0 where
+  pub cap : Capacity
+  pub counts : List ℕ
+  pub entries : ℕ
+  pub ready : CapacityReady cap
+  pub sheet : OpenedSheet cap (storeOf slots counts) entries m work
+  pub tallies : words ≡ rangeTallies (cap .counts) (sheet .contents .list) (sheet .contents .shape)
 
 -- A question of any kind of sheet that is the question p of a plain one: by the list the same causes, answer and entries written.
 pub record AsPlain (kind : Kind) (q : kind .calls .Question) (p : Question) : Type 0 where

@@ -11,7 +11,7 @@ use Rattle.call_outcomes.specs.Kind.{ask, Kind, StoreFor}
 use Rattle.call_outcomes.specs.Causes.{Decision, refuse, accept, storeDecision, lookedAt, decision}
 use Rattle.call_outcomes.specs.Outcome.{Outcome, outcome}
 use Rattle.call_outcomes.specs.DecisionLaws.{accepted, question-outcome}
-use Rattle.call_outcomes.specs.Plain.{Question, questionCause, writtenFor}
+use Rattle.call_outcomes.specs.PlainCalls.{Question, questionCause, writtenFor}
 use Rattle.call_open.specs.declared.Opened.{Opened}
 use Rattle.call_open.specs.declared.Opened.the-variants as opened
 use Rattle.call_open.specs.Opening.{openedAs, admitted}

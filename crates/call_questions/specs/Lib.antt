@@ -4,4 +4,5 @@ pub mod AskedLaws
 pub mod AnswerLaws
 pub mod StartLaws
 pub mod ReadLaws
+pub mod TalliedLaws
 pub mod PlaceLaws

@@ -9,8 +9,9 @@ use lib.Seq.{length-take-le}
 use Rattle.store_layout.specs.declared.Capacity.{Capacity}
 use Rattle.store_layout.specs.Leaf.{nonzero}
 use Rattle.call_outcomes.specs.declared.Answer.the-variants.{Entries}
-use Rattle.call_outcomes.specs.Plain.{readRanks, questionCause, replyTo, writtenFor, storeOf}
-use Rattle.call_outcomes.specs.PlainLaws.{read-within}
+use Rattle.call_outcomes.specs.PlainCalls.{readRanks, questionCause, replyTo, writtenFor}
+use Rattle.call_outcomes.specs.Untallied.{storeOf}
+use Rattle.call_outcomes.specs.PlainCallLaws.{read-within}
 use Rattle.call_open.specs.declared.Opened.{Opened}
 use Rattle.call_open.specs.declared.Opened.the-variants as opened
 use Rattle.call_open.specs.Opening.{admitted, OpenedSheet}

@@ -18,7 +18,7 @@ use Rattle.store_layout.specs.SheetLaws.{decoded, decode-sound, length-counts}
 use Rattle.store_rank.specs.declared.Start.{Start}
 use Rattle.store_rank.specs.LeafOf.{startOf}
 use Rattle.store_rank.specs.LeafOfLaws.{decoded-start}
-use Rattle.call_outcomes.specs.Plain.{storeOf}
+use Rattle.call_outcomes.specs.Untallied.{storeOf}
 use Rattle.call_open.specs.Opening.{OpenedSheet}
 
 -- The list of a sheet is what stands in its slots.
@@ -30,7 +30,7 @@ module _ {cap : Capacity} {slots counts work : List ℕ} {n m : ℕ} (w : Opened
   pub entries-number : n ≡ length (nonzero slots)
   entries-number = sym (w .count) ∙ ap length (decoded-list cap (storeOf slots counts) (w .contents) (w .decoded))
 
-  laid : IsContents cap (w .contents .list) (w .contents .shape) × (storeOf slots counts ≡ layOut cap (w .contents .list) (w .contents .shape))
+  pub laid : IsContents cap (w .contents .list) (w .contents .shape) × (storeOf slots counts ≡ layOut cap (w .contents .list) (w .contents .shape))
   laid = decode-sound cap (storeOf slots counts) (w .contents) (w .decoded)
 
   module _ (ready : CapacityReady cap) where
@@ -43,10 +43,13 @@ module _ {cap : Capacity} {slots counts work : List ℕ} {n m : ℕ} (w : Opened
     pub size-small : m < 2 ^ 32
     size-small = omega (arith, size-most, ready .few)
 
+    pub ranges-room : 2 * 2 ^ height m ≤ cap .counts
+    ranges-room = counts-enough cap (ready .roomy) m size-most
+
     pub counts-room : 2 * 2 ^ height m ≤ length work
     counts-room =
         rw (w .copied, length-numbered (storeOf slots counts), ap (λ (x : Store). length (x .counts)) (laid .1))
-        (rw (length-counts cap (w .contents .list) (w .contents .shape) (laid .0)) (counts-enough cap (ready .roomy) m size-most))
+        (rw (length-counts cap (w .contents .list) (w .contents .shape) (laid .0)) ranges-room)
 
     -- The leaf that is found by the counts.
     module _ {start : Start} (rank : ℕ) (is : start ≡ startOf m work rank) where

@@ -1,12 +1,16 @@
 // Questions about a sheet, answered by what its store was found to hold.
 ghost use mathlib.Core.Path.{_≡_};
 ghost use mathlib.Core.List.{[]};
+ghost use Prim.Native.Nat.{_<_};
 ghost use lib.ListN.{length};
 ghost use Rattle.store_layout.specs.Leaf.{nonzero};
-ghost use Rattle.call_outcomes.specs.Plain.{readRanks, placeOf, countOf};
-ghost use Rattle.call_questions.specs.Asked.{asked, Answers, Readable};
+ghost use Rattle.store_ties.specs.Ties.{placingIn};
+ghost use Rattle.call_outcomes.specs.PlainCalls.{readRanks, placeOf, countOf};
+ghost use Rattle.call_questions.specs.Asked.{asked, Answers, Readable, Tallied, RoomFor, ByNumber};
 use call_open::Opened;
 use call_outcomes::Answer;
+use store_layout::count_at;
+use store_ties::Placing;
 use tree_sizes::Size;
 
 // Copies the entries of ranks first to last to the front of the output, from the leaf on in which the first of them stands.
@@ -33,16 +37,38 @@ pub fn read(
     }
 }
 
-// The place of the entry at the rank: that of her tied group, the sum of its places and the number of its boats.
-pub fn place(opened: Opened, slots: &[u64], work: &[u32], rank: usize) -> Answer
-    requires { ⌜ Readable opened (now slots) (now work) ⌝ }
+// What the boat at the rank has, on a sheet with the size parameter m whose tallies stand by range number. The scoring boats before her are those
+// in the leaves before hers, by the tallies on the path down, and those before her in her leaf.
+fn placing_of(m: usize, slots: &[u64], work: &[u32], tallies: &[u32], rank: usize) -> Placing
+    requires sheet { ⌜ ByNumber m (now slots) (now work) (now tallies) ⌝ }
+    requires below { ⌜ rank < length (nonzero (now slots)) ⌝ }
+    ensures { λ r. ⌜ r ≡ placingIn (nonzero (now (slots .entry))) rank ⌝ }
+{
+    let start = store_rank::start_of(Size { m: m }, work, rank);
+    let ahead = store_tallies::tally_before(Size { m: m }, tallies, start.leaf);
+    let before = ahead + store_scoring::scoring_among(slots, start.slot, start.rank);
+    let behind = store_slices::skip_entries(slots, start.slot, start.rank + 1);
+    store_ties::placing_at(slots, behind - 1, before, count_at(tallies, 1))
+}
+
+// The place of the entry at the rank: that of her tied group, the sum of its places and the number of its boats; a retired boat has none.
+// The tallies are read by range number into `numbers`.
+pub fn place(
+    opened: Opened,
+    slots: &[u64],
+    work: &[u32],
+    tallies: &[u16],
+    numbers: &mut [u32],
+    rank: usize,
+) -> Answer
+    requires sheet { ⌜ Tallied opened (now slots) (now work) (now tallies) ⌝ }
+    requires room { ⌜ RoomFor opened (now tallies) (now numbers) ⌝ }
     ensures { λ r. ⌜ record { answer = r; output = [] } ≡ asked (placeOf rank) opened (nonzero (now (slots .entry))) [] ⌝ }
 {
     match call_open::admit_rank(opened, rank) {
-        Opened::Sheet { n, m } => {
-            let start = store_rank::start_of(Size { m: m }, work, rank);
-            let at = store_slices::skip_entries(slots, start.slot, start.rank + 1);
-            let placing = store_ties::placing_at(slots, at, rank, n);
+        Opened::Sheet { n: _, m } => {
+            store_counts::read_counts(Size { m: m }, tallies, numbers);
+            let placing = placing_of(m, slots, work, numbers, rank);
             Answer::Placed {
                 place: placing.place,
                 sum: placing.sum,

@@ -1,77 +1,64 @@
--- Timed sheets (document 02, F-1), for any capacity: a store of three slices, whose entries rise. Definitions only.
-use mathlib.Core.Bool.{Bool, true, false, _&&_}
+-- Timed sheets (document 02, F-1), for any capacity: a plain sheet whose entries rise, with the balance entries in a further slice.
+-- Definitions only.
+use mathlib.Core.Bool.{Bool, true, false}
 use mathlib.Core.List.{List, []}
 use mathlib.Core.Option.{Option, none}
 use mathlib.Core.Path.{_≡_}
 use Prim.Native.Nat.{ℕ}
 use lib.Dec.{eqb, leb}
 use lib.ListN.{length}
-use Rattle.base.specs.Lists.{equalLists}
 use Rattle.tree_rules.specs.Tree.{Shape}
 use Rattle.store_layout.specs.declared.Capacity.{Capacity}
-use Rattle.store_layout.specs.Layout.{Store, layOut}
-use Rattle.store_layout.specs.Decode.{Contents}
+use Rattle.store_layout.specs.Decode.{numbered}
 use Rattle.store_keys.specs.Key.{key, Rises, rises, rankOf, present}
 use Rattle.store_balance.specs.Balance.{layBalance}
 use Rattle.call_outcomes.specs.declared.Cause.{Cause}
 use Rattle.call_outcomes.specs.declared.Cause.the-variants.{NotTimed, EntryZero, EntryPresent, Full}
 use Rattle.call_outcomes.specs.declared.Answer.{Answer}
 use Rattle.call_outcomes.specs.declared.Answer.the-variants.{Present, Absent}
-use Rattle.call_outcomes.specs.Kind.{Found, holds, wrong, View, Calls, CallOf, change, ask, Kind}
+use Rattle.call_outcomes.specs.Kind.{View, Calls, CallOf, change, ask, Kind}
 use Rattle.call_outcomes.specs.Causes.{firstOf}
 use Rattle.call_outcomes.specs.Outcome.{Outcome}
-use Rattle.call_outcomes.specs.Plain.{IsList, RightLengths, rightLengths, equalStores, plainView, PlainChange, insertAt, deleteAt, changeCause, editOf, Question, readRanks, placeOf, countOf, questionCause, replyTo, writtenFor, storeOf}
+use Rattle.call_outcomes.specs.PlainCalls.{PlainChange, insertAt, deleteAt, changeCause, editOf, Question, readRanks, placeOf, countOf, questionCause, replyTo, writtenFor, plainCalls}
+use Rattle.call_outcomes.specs.Untallied.{IsList}
+use Rattle.call_outcomes.specs.Slice.{Slice, Sliced, equalWith, withSlice}
+use Rattle.call_outcomes.specs.Plain.{plainView, PlainStore, PlainLengths, equalPlain, plainStoreOf}
 
 -- ---- the store
-
--- The store: a plain store, and the third slice.
-pub record TimedStore : Type 0 where
-  pub sheet : Store
-  pub balance : List ℕ
 
 -- A list that a timed sheet can hold: one of a plain sheet, which rises.
 pub record IsTimedList (cap : Capacity) (list : List ℕ) : Type 0 where
   pub plain : IsList cap list
   pub rising : Rises list
 
--- The timed sheet of a list with a shape. The third slice is as long as the counts.
-unfoldable pub layTimed : Capacity → List ℕ → Shape → TimedStore
-layTimed cap list s = record { sheet = layOut cap list s; balance = layBalance (cap .counts) list s }
-
--- The three slices have the right lengths, and the test of that.
-pub record TimedLengths (cap : Capacity) (store : TimedStore) : Type 0 where
-  pub plain : RightLengths cap (store .sheet)
-  pub balance : length (store .balance) ≡ cap .counts
-
-unfoldable pub timedLengths : Capacity → TimedStore → Bool
-timedLengths cap store = rightLengths cap (store .sheet) && eqb (length (store .balance)) (cap .counts)
-
--- The list rises, and the third slice is that of the list with the shape.
-unfoldable pub timedTest : Capacity → List ℕ → Contents → Bool
-timedTest cap balance c = rises (c .list) && equalLists balance (layBalance (cap .counts) (c .list) (c .shape))
-
-unfoldable pub timedBy : Bool → Contents → Found
-timedBy true c = holds c
-timedBy false c = wrong NotTimed
-
--- Cause 2 where slots and counts are no plain sheet, then cause 11.
-unfoldable pub foundTimed : Capacity → List ℕ → Found → Found
-foundTimed cap balance (wrong cause) = wrong cause
-foundTimed cap balance (holds c) = timedBy (timedTest cap balance c) c
-
--- Every slot, every count and every word of the third slice are the same.
-unfoldable pub equalTimed : TimedStore → TimedStore → Bool
-equalTimed a b = equalStores (a .sheet) (b .sheet) && equalLists (a .balance) (b .balance)
+-- The balance entries as a further slice of a plain sheet: as long as the counts, on sheets whose lists rise; a wrong one, or a list that does
+-- not rise, is cause 11.
+abbrev pub balanceSlice : Capacity → Slice
+balanceSlice cap = record {
+  IsList = IsTimedList cap;
+  isList = rises;
+  room = cap .counts;
+  lay = layBalance (cap .counts);
+  cause = NotTimed;
+}
 
 abbrev pub timedView : Capacity → View
-timedView cap = record {
-  Store = TimedStore;
-  IsList = IsTimedList cap;
-  lay = layTimed cap;
-  rightLengths = timedLengths cap;
-  decode = λ store. foundTimed cap (store .balance) (plainView cap .decode (store .sheet));
-  equal = equalTimed;
-}
+timedView cap = withSlice (plainView cap) (balanceSlice cap)
+
+abbrev pub TimedStore : Type 0
+TimedStore = Sliced PlainStore
+
+-- The four slices have the right lengths.
+pub record TimedLengths (cap : Capacity) (store : TimedStore) : Type 0 where
+  pub plain : PlainLengths cap (store .sheet)
+  pub balance : length (store .slice) ≡ cap .counts
+
+-- The timed sheet of a list with a shape; and whether every slot, every count, every tally and every balance entry of two stores are the same.
+abbrev pub layTimed : Capacity → List ℕ → Shape → TimedStore
+layTimed cap = timedView cap .lay
+
+abbrev pub equalTimed : TimedStore → TimedStore → Bool
+equalTimed = equalWith equalPlain
 
 -- ---- insert by entry, and delete by rank
 
@@ -130,6 +117,10 @@ timedCalls entries = record {
 abbrev pub timed : Capacity → Kind
 timed cap = record { view = timedView cap; calls = timedCalls (cap .entries) }
 
+-- Timed sheets with the calls of plain ones: an entry comes in at a rank that is given. What a timed change comes to is said by these.
+abbrev pub ranked : Capacity → Kind
+ranked cap = record { view = timedView cap; calls = plainCalls (cap .entries) }
+
 -- The seven calls; clear is the one of every kind.
 abbrev pub TimedCall : Type 0
 TimedCall = CallOf TimedChange TimedQuestion
@@ -154,10 +145,18 @@ check = ask (asPlain countOf)
 
 -- ---- the slices
 
--- The three lent slices as a store.
-abbrev pub timedStoreOf : List ℕ → List ℕ → List ℕ → TimedStore
-timedStoreOf slots counts balance = record { sheet = storeOf slots counts; balance = balance }
+-- The four lent slices as a store.
+abbrev pub timedStoreOf : List ℕ → List ℕ → List ℕ → List ℕ → TimedStore
+timedStoreOf slots counts tallies balance = record { sheet = plainStoreOf slots counts tallies; slice = balance }
+
+-- The counts of a timed store by range number.
+abbrev pub timedNumbers : TimedStore → List ℕ
+timedNumbers store = numbered (store .sheet .sheet)
 
 -- What a call leaves in the slices that it was lent.
-abbrev pub timedOutcomeOf : Answer → List ℕ → List ℕ → List ℕ → List ℕ → Outcome TimedStore
-timedOutcomeOf answer slots counts balance output = record { answer = answer; store = timedStoreOf slots counts balance; output = output }
+abbrev pub timedOutcomeOf : Answer → List ℕ → List ℕ → List ℕ → List ℕ → List ℕ → Outcome TimedStore
+timedOutcomeOf answer slots counts tallies balance output = record {
+  answer = answer;
+  store = timedStoreOf slots counts tallies balance;
+  output = output;
+}

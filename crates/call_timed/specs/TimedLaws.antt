@@ -1,104 +1,50 @@
 -- Timed sheets are a kind of sheet, for every capacity with room enough.
-use mathlib.Core.Path.{_≡_, refl, ap₂}
-use mathlib.Core.Bool.{Bool, true, false}
+use mathlib.Core.Path.{_≡_}
+use mathlib.Core.Bool.{true}
 use mathlib.Core.List.{List}
 use mathlib.Core.Option.{none}
 use Prim.Native.Nat.{ℕ, _<_}
 use native.Mathlib.Omega.{arith}
-use borrow.Author.Tests.{eq-eqb, eqb-true, eqb-false, ne-eqb, le-ltb}
+use borrow.Author.Tests.{eqb-false, ne-eqb, le-ltb}
 use lib.Dec.{eqb}
 use lib.ListN.{length}
-use Rattle.base.specs.BoolLaws.{and-both}
-use Rattle.base.specs.ListLaws.{equal-itself, equal-sound}
-use Rattle.draw_shares.specs.Apart.{EqualityTest}
 use Rattle.tree_rules.specs.ChangeList.{changeList}
 use Rattle.store_layout.specs.declared.Capacity.{Capacity}
-use Rattle.store_layout.specs.Layout.{Store}
-use Rattle.store_layout.specs.Decode.{Contents}
 use Rattle.store_layout.specs.Room.{Roomy}
-use Rattle.store_keys.specs.Key.{key, RiseFrom, Rises, rises, rankOf, present}
+use Rattle.store_keys.specs.Key.{key, RiseFrom, Rises, rankOf, present}
 use Rattle.store_keys.specs.KeyLaws.{rises-true, true-rises, rank-most, insert-rises, delete-rises, key-entry}
-use Rattle.store_balance.specs.Balance.{layBalance}
 use Rattle.store_balance.specs.BalanceLaws.{length-layBalance}
 use Rattle.call_outcomes.specs.declared.Cause.the-variants.{EntryZero, EntryPresent}
-use Rattle.call_outcomes.specs.Kind.{Found, holds, wrong, LawfulView, LawfulCalls, applied, Lawful}
+use Rattle.call_outcomes.specs.Kind.{LawfulCalls, applied, Lawful}
 use Rattle.call_outcomes.specs.Causes.{firstOf}
 use Rattle.call_outcomes.specs.DecisionLaws.{first-none}
-use Rattle.call_outcomes.specs.Plain.{rightLengths, equalStores, changeCause, editOf, plain}
-use Rattle.call_outcomes.specs.PlainLaws.{lengths-right, right-lengths, stores-test, plain-lawful}
-use Rattle.call_timed.specs.Timed.{TimedStore, IsTimedList, layTimed, TimedLengths, timedLengths, timedTest, timedBy, foundTimed, equalTimed, timedView, TimedChange, insertEntry, deleteRank, plainly, timedChangeCause, timedCalls, timed}
-
--- ---- lengths
-
-module _ (cap : Capacity) (store : TimedStore) where
-  pub timed-right : TimedLengths cap store → timedLengths cap store ≡ true
-  unfolding timedLengths
-  timed-right w = rw (lengths-right cap (store .sheet) (w .plain), eq-eqb _ _ (w .balance))
-
-  pub right-timed : timedLengths cap store ≡ true → TimedLengths cap store
-  unfolding timedLengths
-  right-timed h =
-      let both = and-both (rightLengths cap (store .sheet)) _ h in
-      record { plain = right-lengths cap (store .sheet) (both .0); balance = eqb-true _ _ (both .1) }
+use Rattle.call_outcomes.specs.PlainCalls.{changeCause, editOf}
+use Rattle.call_outcomes.specs.Slice.{LawfulSlice}
+use Rattle.call_outcomes.specs.SliceLaws.{lengths-with, with-lengths, slice-lawful}
+use Rattle.call_outcomes.specs.Plain.{plainView, plain}
+use Rattle.call_outcomes.specs.PlainLaws.{plain-right, right-plain, plain-lawful}
+use Rattle.call_timed.specs.Timed.{IsTimedList, balanceSlice, timedView, TimedStore, TimedLengths, TimedChange, insertEntry, deleteRank, plainly, timedChangeCause, timedCalls, timed}
 
 -- ---- the store
 
--- A timed sheet is found where a plain one is, its list rises, and the third slice is that of the contents.
-pub record TimedParts (cap : Capacity) (balance : List ℕ) (found : Found) (c : Contents) : Type 0 where
-  pub plain : found ≡ holds c
-  pub rising : Rises (c .list)
-  pub third : balance ≡ layBalance (cap .counts) (c .list) (c .shape)
+module _ (cap : Capacity) (store : TimedStore) where
+  pub timed-right : TimedLengths cap store → timedView cap .rightLengths store ≡ true
+  timed-right w = lengths-with (plainView cap .rightLengths) (cap .counts) store (plain-right cap (store .sheet) (w .plain)) (w .balance)
 
-module _ (cap : Capacity) (balance : List ℕ) where
-  by-test : (b : Bool) (c c′ : Contents) → timedBy b c ≡ holds c′ → (b ≡ true) × (c ≡ c′)
-  unfolding timedBy
-  by-test true c c′ e = (refl, cc)
-  by-test false c c′ e = let z : _≡_ {A = ℕ} 0 1 = cc in absurd (omega arith)
+  pub right-timed : timedView cap .rightLengths store ≡ true → TimedLengths cap store
+  right-timed h =
+      let both = with-lengths (plainView cap .rightLengths) (cap .counts) store h in
+      record { plain = right-plain cap (store .sheet) (both .0); balance = both .1 }
 
-  pub found-timed : (found : Found) (c : Contents) → foundTimed cap balance found ≡ holds c → TimedParts cap balance found c
-  unfolding foundTimed timedTest
-  found-timed (wrong cause) c e = let z : _≡_ {A = ℕ} 0 1 = cc in absurd (omega arith)
-  found-timed (holds d) c e =
-      let t = by-test (timedTest cap balance d) d c e in
-      let both = and-both (rises (d .list)) _ (t .0) in
-      rw (← t .1)
-      record { plain = refl; rising = true-rises 0 (d .list) (both .0); third = equal-sound balance _ (both .1) }
-
-  pub timed-found : (found : Found) (c : Contents) → TimedParts cap balance found c → foundTimed cap balance found ≡ holds c
-  unfolding foundTimed timedTest timedBy
-  timed-found found c w =
-      rw (w .plain, w .third, rises-true 0 (c .list) (w .rising), equal-itself (layBalance (cap .counts) (c .list) (c .shape)))
-
-timed-test : EqualityTest equalTimed
-unfolding equalTimed
-timed-test = record {
-  itself = λ a. rw (stores-test .itself (a .sheet), equal-itself (a .balance));
-  sound = λ a b e.
-      let both = and-both (equalStores (a .sheet) (b .sheet)) _ e in
-      ap₂ {C = TimedStore} (λ (s : Store) (xs : List ℕ). record { sheet = s; balance = xs })
-      (stores-test .sound (a .sheet) (b .sheet) (both .0)) (equal-sound (a .balance) (b .balance) (both .1));
+balance-lawful : (cap : Capacity) → Roomy cap → LawfulSlice (plainView cap) (balanceSlice cap)
+unfolding RiseFrom
+balance-lawful cap roomy = record {
+  no-entry = record { plain = plain-lawful cap roomy .view .no-entry; rising = tt };
+  narrower = λ list w. w .plain;
+  listed = λ list w. rises-true 0 list (w .rising);
+  tested = λ list w t. record { plain = w; rising = true-rises 0 list t };
+  length-is = length-layBalance (cap .counts);
 }
-
-module _ (cap : Capacity) (roomy : Roomy cap) where
-  timed-view : LawfulView (timedView cap)
-  unfolding layTimed timedLengths RiseFrom
-  timed-view =
-      let plainly = plain-lawful cap roomy .view in
-      record {
-        no-entry = record { plain = plainly .no-entry; rising = tt };
-        lengths = λ list s w shape. rw (plainly .lengths list s (w .plain) shape, eq-eqb _ _ (length-layBalance (cap .counts) list s));
-        complete = λ list s w shape.
-            timed-found cap (layBalance (cap .counts) list s) _ _
-            record { plain = plainly .complete list s (w .plain) shape; rising = w .rising; third = refl };
-        sound = λ store c e.
-            let t = found-timed cap (store .balance) _ c e in
-            let w = plainly .sound (store .sheet) c (t .plain) in (
-              record { plain = w .0; rising = t .rising },
-              w .1,
-              ap₂ (λ (s : Store) (xs : List ℕ). record { sheet = s; balance = xs }) (w .2) (t .third),
-            );
-        test = timed-test;
-      }
 
 -- ---- insert and delete
 
@@ -134,4 +80,7 @@ timed-calls cap roomy =
     }
 
 pub timed-lawful : (cap : Capacity) → Roomy cap → Lawful (timed cap)
-timed-lawful cap roomy = record { view = timed-view cap roomy; calls = timed-calls cap roomy }
+timed-lawful cap roomy = record {
+  view = slice-lawful (plainView cap) (balanceSlice cap) (plain-lawful cap roomy .view) (balance-lawful cap roomy);
+  calls = timed-calls cap roomy;
+}

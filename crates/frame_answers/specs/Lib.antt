@@ -2,6 +2,7 @@
 pub mod Step
 pub mod Gives
 pub mod Fits
+pub mod QuestionLaws
 pub mod StepLaws
 pub mod ReadyLaws
 pub mod CountLaws

@@ -6,8 +6,8 @@ use native.Mathlib.Omega.{arith}
 use lib.ListN.{length, take, drop, length-drop, length-append}
 use lib.Seq.{length-take-le}
 use Rattle.base.specs.CaseLaws.{by-lt}
-use Rattle.store_layout.specs.Layout.{Store}
-use Rattle.call_outcomes.specs.Plain.{insertAt, deleteAt, plain}
+use Rattle.call_outcomes.specs.PlainCalls.{insertAt, deleteAt}
+use Rattle.call_outcomes.specs.Plain.{plain, PlainStore}
 use Rattle.call_outcomes.specs.Clubs.{clubs}
 use Rattle.call_outcomes.specs.AnswerLaws.{words-within}
 use Rattle.frame_lines.specs.declared.Frame.{Frame}
@@ -25,7 +25,7 @@ waiting-within t = omega (arith, t .room, t .few)
 pub read-within : {k : Kept} → TapeReady k → (n : ℕ) → n ≤ length (take (k .waiting) (k .tape)) → n ≤ k .waiting
 read-within {k} t n l = omega (arith, length-take-le (k .waiting) (k .tape) (waiting-within t))
 
-read-ready : {k : Kept} → TapeReady k → (n : ℕ) (store : Store) → n ≤ length (take (k .waiting) (k .tape))
+read-ready : {k : Kept} → TapeReady k → (n : ℕ) (store : PlainStore) → n ≤ length (take (k .waiting) (k .tape))
     → TapeReady (keptOf store (readOff n (k .tape)) (k .waiting - n))
 read-ready {k} t n store l = record {
   room = length-readOff n (k .tape) (omega (arith, read-within t n l, waiting-within t)) ∙ t .room;

@@ -13,7 +13,8 @@ use Rattle.call_outcomes.specs.declared.Returned.{Returned}
 use Rattle.call_outcomes.specs.Returns.{causeNumber, returned}
 use Rattle.call_outcomes.specs.Kind.{clear}
 use Rattle.call_outcomes.specs.Outcome.{Outcome, outcome}
-use Rattle.call_outcomes.specs.Plain.{plain, insert, delete, read, place, check}
+use Rattle.call_outcomes.specs.PlainCalls.{insert, delete, read, place, check}
+use Rattle.call_outcomes.specs.Plain.{plain, PlainStore}
 use Rattle.call_outcomes.specs.Clubs.{clubs, zeros}
 use Rattle.frame_lines.specs.declared.Frame.{Frame}
 use Rattle.frame_lines.specs.declared.Frame.the-variants.{Insert, Delete, Read, Tape, Print, Clear, Place, NoFrame}
@@ -23,7 +24,7 @@ use Rattle.frame_replies.specs.Reply.{Reply, brief, entries, placed, sheet, lea
 
 -- What the program keeps between two lines: the store, and the tape, of whose words the first `waiting` wait, the oldest first.
 pub record Kept : Type 0 where
-  pub store : Store
+  pub store : PlainStore
   pub tape : List ℕ
   pub waiting : ℕ
 
@@ -42,27 +43,27 @@ pub record Answered : Type 0 where
   pub kept : Kept
 
 -- N: count 1 of a sheet is the number of its entries.
-unfoldable pub entryCount : Store → ℕ
-entryCount store = getD (store .counts) 1 0
+unfoldable pub entryCount : PlainStore → ℕ
+entryCount store = getD (store .sheet .counts) 1 0
 
 -- One line answers, and everything is kept.
 unfoldable pub keeping : Kept → Reply → Answered
 keeping k reply = record { replies = reply ∷ []; kept = k }
 
 -- A line that is refused by a cause of the program's own.
-unfoldable pub refusal : ℕ → Cause → Store → Reply
+unfoldable pub refusal : ℕ → Cause → PlainStore → Reply
 refusal kind c store = brief kind (causeNumber c) (entryCount store)
 
 -- ---- insert and delete
 
 -- The answer to a call that reads words; a refused one has read none.
-unfoldable pub changedBy : ℕ → Kept → Returned → Store → Answered
+unfoldable pub changedBy : ℕ → Kept → Returned → PlainStore → Answered
 changedBy kind k back store = record {
   replies = brief kind (back .number) (entryCount store) ∷ [];
   kept = record { store = store; tape = readOff (back .second) (k .tape); waiting = k .waiting - back .second };
 }
 
-unfoldable pub changed : ℕ → Kept → Outcome Store → Answered
+unfoldable pub changed : ℕ → Kept → Outcome PlainStore → Answered
 changed kind k o = changedBy kind k (returned (o .answer)) (o .store)
 
 -- ---- read, place and clear
@@ -70,19 +71,19 @@ changed kind k o = changedBy kind k (returned (o .answer)) (o .store)
 unfoldable pub readReply : Returned → ℕ → List ℕ → Reply
 readReply back n output = ifEq (back .number) 0 (entries n (take (back .first) output)) (brief 131 (back .number) n)
 
-unfoldable pub readLine : Outcome Store → Store → Reply
+unfoldable pub readLine : Outcome PlainStore → PlainStore → Reply
 readLine o store = readReply (returned (o .answer)) (entryCount store) (o .output)
 
 unfoldable pub placeReply : Returned → ℕ → Reply
 placeReply back n = ifEq (back .number) 0 (placed n (back .first) (back .second) (back .third)) (brief 135 (back .number) n)
 
-unfoldable pub placeLine : Outcome Store → Store → Reply
+unfoldable pub placeLine : Outcome PlainStore → PlainStore → Reply
 placeLine o store = placeReply (returned (o .answer)) (entryCount store)
 
-unfoldable pub clearLine : Outcome Store → Reply
+unfoldable pub clearLine : Outcome PlainStore → Reply
 clearLine o = brief 134 (returned (o .answer) .number) (entryCount (o .store))
 
-unfoldable pub cleared : Kept → Outcome Store → Answered
+unfoldable pub cleared : Kept → Outcome PlainStore → Answered
 cleared k o = record {
   replies = clearLine o ∷ [];
   kept = record { store = o .store; tape = k .tape; waiting = k .waiting };
@@ -118,17 +119,17 @@ leafReplies slots counts s first j (suc k) = leafReply slots counts s first j �
 unfoldable pub leavesOf : ℕ → ℕ
 leavesOf m = ifEq m 0 0 (2 ^ height m)
 
--- The lines 90 and 91. Count 0 is the size parameter M.
+-- The lines 90 and 91. Count 0 is the size parameter M, and count 1 the number of entries.
 unfoldable pub sheetReplies : Store → List Reply
 sheetReplies store =
     let m = getD (store .counts) 0 0 in
-    sheet m (entryCount store) ∷ leafReplies (store .slots) (numbered store) (leafSlots m) (2 ^ height m) 0 (leavesOf m)
+    sheet m (getD (store .counts) 1 0) ∷ leafReplies (store .slots) (numbered store) (leafSlots m) (2 ^ height m) 0 (leavesOf m)
 
--- The answer, and the lines of the sheet where the store is one.
-unfoldable pub printReplies : ℕ → Store → List Reply
-printReplies number store = brief 133 number (entryCount store) ∷ ifEq number 0 (sheetReplies store) []
+-- The answer, and the lines of the sheet where the store is one. Its tallies are not printed.
+unfoldable pub printReplies : ℕ → PlainStore → List Reply
+printReplies number store = brief 133 number (entryCount store) ∷ ifEq number 0 (sheetReplies (store .sheet)) []
 
-unfoldable pub printLines : Outcome Store → Store → List Reply
+unfoldable pub printLines : Outcome PlainStore → PlainStore → List Reply
 printLines o store = printReplies (returned (o .answer) .number) store
 
 -- ---- a frame, and a line

@@ -4,6 +4,7 @@ use mathlib.Core.Bool.{Bool, true, not, _&&_}
 use mathlib.Core.Logic.{_≢_}
 use mathlib.Core.List.{List, [], _∷_, _++_}
 use Prim.Native.Nat.{ℕ, zero, suc, _+_, _-_, _*_, _^_, _≤_, _<_}
+use native.Mathlib.Nat.{mul-le-mul}
 use native.Mathlib.Omega.{arith}
 use borrow.Author.Tests.{eqb-false, not-true}
 use lib.Dec.{eqb}
@@ -13,23 +14,20 @@ use Rattle.base.specs.CaseLaws.{by-eq, by-lt}
 use Rattle.base.specs.Lists.{Every}
 use Rattle.base.specs.ListLaws.{every-append, every-take, every-drop, every-replicate, every-at}
 use Rattle.tree_sizes.specs.Sizes.{height, leafSlots}
-use Rattle.store_layout.specs.Layout.{Store}
 use Rattle.store_layout.specs.Leaf.{nonzero}
 use Rattle.store_layout.specs.Decode.{numbered, listOf}
 use Rattle.store_layout.specs.NumberedLaws.{every-numbered}
 use Rattle.store_layout.specs.RoomLaws.{counts-enough}
 use Rattle.store_layout.specs.SheetLaws.{decoded, decode-sound, size-known}
-use Rattle.store_ties.specs.Groups.{groupFirst, groupEnd, placing, placingOf}
-use Rattle.store_ties.specs.Ties.{tiedIn}
-use Rattle.store_ties.specs.SumLaws.{sum-most}
-use Rattle.store_ties.specs.GroupLaws.{first-most, end-above, end-most}
+use Rattle.store_ties.specs.ExactLaws.{placing-most}
 use Rattle.call_outcomes.specs.Returns.{returned}
 use Rattle.call_outcomes.specs.Kind.{clear}
 use Rattle.call_outcomes.specs.Outcome.{outcome}
 use Rattle.call_outcomes.specs.DecisionLaws.{question-outcome}
 use Rattle.call_outcomes.specs.AnswerLaws.{number-fits, number-accepted}
-use Rattle.call_outcomes.specs.Plain.{readRanks, placeOf, countOf, replyTo, writtenFor, plain, insert, delete, read, place, check}
-use Rattle.call_outcomes.specs.PlainLaws.{place-within}
+use Rattle.call_outcomes.specs.PlainCalls.{readRanks, placeOf, countOf, replyTo, writtenFor, insert, delete, read, place, check}
+use Rattle.call_outcomes.specs.Plain.{plain, PlainStore}
+use Rattle.call_outcomes.specs.PlainCallLaws.{place-within}
 use Rattle.call_outcomes.specs.AcceptedLaws.{question-decoded, question-free, entries-most}
 use Rattle.call_outcomes.specs.Clubs.{clubs}
 use Rattle.call_outcomes.specs.ClubsLaws.{clubs-roomy}
@@ -39,6 +37,7 @@ use Rattle.frame_tape.specs.Tape.{mostWaiting}
 use Rattle.frame_replies.specs.ReadBack.{EntriesFit, BriefFits, Writable}
 use Rattle.frame_answers.specs.Step.{Kept, Answered, entryCount, refusal, keeping, changedBy, changed, readReply, readLine, placeReply, placeLine, clearLine, cleared, taped, leafReply, leafReplies, leavesOf, sheetReplies, printReplies, printLines, answerTo}
 use Rattle.frame_answers.specs.Fits.{StoreFits}
+use Rattle.frame_answers.specs.QuestionLaws.{sheet-asked}
 
 -- ---- numbers
 
@@ -49,10 +48,10 @@ entries-fit P (zero ∷ slots) p = entries-fit P slots (p .1)
 entries-fit P (suc x ∷ slots) p = (p .0, entries-fit P slots (p .1))
 
 -- the count of entries that a store has
-module _ (store : Store) (f : StoreFits store) where
+module _ (store : PlainStore) (f : StoreFits (store .sheet)) where
   count-fits : entryCount store < 2 ^ 16
   unfolding entryCount
-  count-fits = every-at (λ (x : ℕ). x < 2 ^ 16) (store .counts) 1 0 (f .counts) (omega arith)
+  count-fits = every-at (λ (x : ℕ). x < 2 ^ 16) (store .sheet .counts) 1 0 (f .counts) (omega arith)
 
 -- ---- brief answers
 
@@ -90,7 +89,7 @@ module _ (kind number n : ℕ) (kind-fits : kind < 2 ^ 8) (number-is : number < 
 
 -- ---- the calls whose answers have more
 
-module _ (store : Store) (f : StoreFits store) where
+module _ (store : PlainStore) (f : StoreFits (store .sheet)) where
   abbrev Fits64 : ℕ → Type 0
   Fits64 x = x < 2 ^ 64
 
@@ -106,7 +105,8 @@ module _ (store : Store) (f : StoreFits store) where
       let q = readRanks first last room in
       let a = number-accepted (plain clubs) (read first last room) [] store (replicate room 0) zero-is in
       let list = a .0 .list in
-      let list-fits : Every Fits64 list = rw (decoded clubs store (a .0) (question-decoded clubs store (a .0) q (a .1)) .1) (entries-fit Fits64 (store .slots) (f .slots)) in
+      let list-fits : Every Fits64 list = rw (decoded clubs (store .sheet) (a .0) (question-decoded clubs (store .sheet) (a .0) q (sheet-asked store (a .0) q (a .1))) .1)
+      (entries-fit Fits64 (store .sheet .slots) (f .slots)) in
       let taken = take (last - first + 1) (drop first list) in
       let taken-fits : Every Fits64 taken = every-take Fits64 (last - first + 1) (drop first list) (every-drop Fits64 first list list-fits) in
       let rest : List ℕ = drop (length taken) (replicate room 0) in
@@ -119,38 +119,32 @@ module _ (store : Store) (f : StoreFits store) where
       → Fits16 (returned (outcome (plain clubs) (place rank) [] store [] .answer) .first)
       × (returned (outcome (plain clubs) (place rank) [] store [] .answer) .second < 2 ^ 32)
       × Fits16 (returned (outcome (plain clubs) (place rank) [] store [] .answer) .third)
-  unfolding replyTo placingOf placing
+  unfolding replyTo
   place-fits rank zero-is =
       let q = placeOf rank in
       let a = number-accepted (plain clubs) (place rank) [] store [] zero-is in
-      let below = place-within rank _ (question-free clubs store (a .0) q (a .1)) in
-      let list = a .0 .list in
-      let first = groupFirst (tiedIn list) rank in
-      let boats = groupEnd (tiedIn list) (length list) rank - first in
-      let room = entries-most clubs store (a .0) q (a .1) in
-      let low = first-most (tiedIn list) rank in
-      let most : first + boats ≤ clubs .entries =
-      omega (arith, room, low, end-above (tiedIn list) (length list) rank, end-most (tiedIn list) (length list) rank below) in
-      let sum = sum-most (suc first) boats (clubs .entries) (omega (arith, most)) in
+      let asked = sheet-asked store (a .0) q (a .1) in
+      let room = entries-most clubs (store .sheet) (a .0) q asked in
+      let most = placing-most (a .0 .list) rank (place-within rank _ (question-free clubs (store .sheet) (a .0) q asked)) in
       rw (question-outcome (plain clubs) q [] store [] (a .0) (a .1))
-      (omega (arith, low, below, room), omega (arith, sum, most), omega (arith, most))
+      (omega (arith, most .0, room), omega (arith, most .1, mul-le-mul room room), omega (arith, most .2, room))
 
   -- the size parameter of a sheet
-  size-most : returned (outcome (plain clubs) check [] store [] .answer) .number ≡ 0 → getD (store .counts) 0 0 ≤ 2 * clubs .entries - 1
+  size-most : returned (outcome (plain clubs) check [] store [] .answer) .number ≡ 0 → getD (store .sheet .counts) 0 0 ≤ 2 * clubs .entries - 1
   size-most zero-is =
       let a = number-accepted (plain clubs) check [] store [] zero-is in
-      let found = question-decoded clubs store (a .0) countOf (a .1) in
-      let valid = decode-sound clubs store (a .0) found .0 in
-      omega (arith, size-known clubs store (a .0) found, valid .shape .allowed .most, valid .room)
+      let found = question-decoded clubs (store .sheet) (a .0) countOf (sheet-asked store (a .0) countOf (a .1)) in
+      let valid = decode-sound clubs (store .sheet) (a .0) found .0 in
+      omega (arith, size-known clubs (store .sheet) (a .0) found, valid .shape .allowed .most, valid .room)
 
-  leaves-fit : (s first j k : ℕ) → j + k ≤ 2 ^ 16 → Every Writable (leafReplies (store .slots) (numbered store) s first j k)
+  leaves-fit : (s first j k : ℕ) → j + k ≤ 2 ^ 16 → Every Writable (leafReplies (store .sheet .slots) (numbered (store .sheet)) s first j k)
   unfolding leafReplies leafReply Every Writable EntriesFit
   leaves-fit s first j zero l = tt
   leaves-fit s first j (suc k) l = (
     (
       omega arith,
-      every-at Fits16 (numbered store) (first + j) 0 (every-numbered store Fits16 (f .counts) (omega arith)) (omega arith),
-      every-take Fits64 s (drop (j * s) (store .slots)) (every-drop Fits64 (j * s) (store .slots) (f .slots)),
+      every-at Fits16 (numbered (store .sheet)) (first + j) 0 (every-numbered (store .sheet) Fits16 (f .counts) (omega arith)) (omega arith),
+      every-take Fits64 s (drop (j * s) (store .sheet .slots)) (every-drop Fits64 (j * s) (store .sheet .slots) (f .slots)),
     ),
     leaves-fit s first (suc j) k (omega arith),
   )
@@ -160,16 +154,16 @@ module _ (store : Store) (f : StoreFits store) where
   leaves-few m l =
       by-eq (λ (k : ℕ). k ≤ 2 ^ 16) m 0 0 (2 ^ height m) (λ e. omega arith) (λ e. omega (arith, counts-enough clubs clubs-roomy m l))
 
-  sheet-fits : getD (store .counts) 0 0 ≤ 2 * clubs .entries - 1 → Every Writable (sheetReplies store)
-  unfolding sheetReplies Every Writable
+  sheet-fits : getD (store .sheet .counts) 0 0 ≤ 2 * clubs .entries - 1 → Every Writable (sheetReplies (store .sheet))
+  unfolding sheetReplies entryCount Every Writable
   sheet-fits l =
-      let m = getD (store .counts) 0 0 in
+      let m = getD (store .sheet .counts) 0 0 in
       ((omega (arith, l), count-fits store f), leaves-fit (leafSlots m) (2 ^ height m) 0 (leavesOf m) (omega (arith, leaves-few m l)))
 
 -- ---- all replies
 
--- Where the numbers of the stores before and after fit their widths, every reply fits its line.
-pub replies-writable : (frame : Frame) (line : List ℕ) (k : Kept) → StoreFits (k .store) → StoreFits (answerTo frame line k .kept .store)
+-- Where the slots and counts before and after fit their widths, every reply fits its line.
+pub replies-writable : (frame : Frame) (line : List ℕ) (k : Kept) → StoreFits (k .store .sheet) → StoreFits (answerTo frame line k .kept .store .sheet)
     → Every Writable (answerTo frame line k .replies)
 unfolding answerTo refusal keeping changed changedBy readLine readReply placeLine placeReply cleared clearLine taped printLines printReplies Every Writable plainTest
 replies-writable (Insert rank entry) line k f g =

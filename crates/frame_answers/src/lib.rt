@@ -5,8 +5,8 @@ ghost use Prim.Native.Nat.{_≤_};
 ghost use lib.ListN.{length, getD, replicate};
 ghost use Rattle.call_outcomes.specs.Kind.{clear};
 ghost use Rattle.call_outcomes.specs.Outcome.{outcome};
-ghost use Rattle.call_outcomes.specs.Plain as call;
-ghost use Rattle.call_outcomes.specs.Plain.{plain, storeOf};
+ghost use Rattle.call_outcomes.specs.PlainCalls as call;
+ghost use Rattle.call_outcomes.specs.Plain.{plain, plainStoreOf};
 ghost use Rattle.call_outcomes.specs.Clubs.{clubs};
 ghost use Rattle.frame_lines.specs.Frame.{frameOf, wordsOf};
 ghost use Rattle.frame_replies.specs.Reply.{brief, lineOf};
@@ -45,18 +45,19 @@ pub fn answer(output: &mut [u8], kind: u64, number: usize, counts: &[u16]) -> us
 pub fn read_line(
     slots: &[u64],
     counts: &[u16],
+    tallies: &[u16],
     first: usize,
     last: usize,
     output: &mut [u8],
 ) -> usize
     requires { ⌜ 1033 ≤ length (now output) ⌝ }
     ensures { λ r. ⌜ Wrote (now (output .entry)) 0
-        (lineOf (readLine (outcome (plain clubs) (call.read first last 64) [] (storeOf (now (slots .entry)) (now (counts .entry))) (replicate 64 0))
-        (storeOf (now (slots .entry)) (now (counts .entry)))))
+        (lineOf (readLine (outcome (plain clubs) (call.read first last 64) [] (plainStoreOf (now (slots .entry)) (now (counts .entry)) (now (tallies .entry))) (replicate 64 0))
+        (plainStoreOf (now (slots .entry)) (now (counts .entry)) (now (tallies .entry)))))
         (now (output .exit)) r ⌝ }
 {
     let mut list = [0u64; 64];
-    let back = sheet_calls::read(slots, counts, first, last, &mut list).returned();
+    let back = sheet_calls::read(slots, counts, tallies, first, last, &mut list).returned();
     let number = back.number;
     if number != 0 {
         return answer(output, 131, number, counts);
@@ -67,14 +68,20 @@ pub fn read_line(
 }
 
 // A place.
-pub fn place_line(slots: &[u64], counts: &[u16], rank: usize, output: &mut [u8]) -> usize
+pub fn place_line(
+    slots: &[u64],
+    counts: &[u16],
+    tallies: &[u16],
+    rank: usize,
+    output: &mut [u8],
+) -> usize
     requires { ⌜ 25 ≤ length (now output) ⌝ }
     ensures { λ r. ⌜ Wrote (now (output .entry)) 0
-        (lineOf (placeLine (outcome (plain clubs) (call.place rank) [] (storeOf (now (slots .entry)) (now (counts .entry))) [])
-        (storeOf (now (slots .entry)) (now (counts .entry)))))
+        (lineOf (placeLine (outcome (plain clubs) (call.place rank) [] (plainStoreOf (now (slots .entry)) (now (counts .entry)) (now (tallies .entry))) [])
+        (plainStoreOf (now (slots .entry)) (now (counts .entry)) (now (tallies .entry)))))
         (now (output .exit)) r ⌝ }
 {
-    let back = sheet_calls::place(slots, counts, rank).returned();
+    let back = sheet_calls::place(slots, counts, tallies, rank).returned();
     let number = back.number;
     if number != 0 {
         return answer(output, 135, number, counts);
@@ -91,12 +98,17 @@ pub fn place_line(slots: &[u64], counts: &[u16], rank: usize, output: &mut [u8])
 }
 
 // A clear.
-pub fn clear_line(slots: &mut [u64], counts: &mut [u16], output: &mut [u8]) -> usize
+pub fn clear_line(
+    slots: &mut [u64],
+    counts: &mut [u16],
+    tallies: &mut [u16],
+    output: &mut [u8],
+) -> usize
     requires { ⌜ 9 ≤ length (now output) ⌝ }
-    ensures { λ r. ⌜ ClearGives (outcome (plain clubs) clear [] (storeOf (now (slots .entry)) (now (counts .entry))) [])
-        (now (output .entry)) r (storeOf (now (slots .exit)) (now (counts .exit))) (now (output .exit)) ⌝ }
+    ensures { λ r. ⌜ ClearGives (outcome (plain clubs) clear [] (plainStoreOf (now (slots .entry)) (now (counts .entry)) (now (tallies .entry))) [])
+        (now (output .entry)) r (plainStoreOf (now (slots .exit)) (now (counts .exit)) (now (tallies .exit))) (now (output .exit)) ⌝ }
 {
-    let back = sheet_calls::clear(slots, counts).returned();
+    let back = sheet_calls::clear(slots, counts, tallies).returned();
     answer(output, 134, back.number, counts)
 }
 
@@ -106,6 +118,7 @@ pub fn tape_line(
     words: usize,
     slots: &[u64],
     counts: &[u16],
+    tallies: &[u16],
     tape: &mut [u32],
     waiting: usize,
     output: &mut [u8],
@@ -115,8 +128,8 @@ pub fn tape_line(
     requires waiting { ⌜ waiting ≤ mostWaiting ⌝ }
     requires room { ⌜ 9 ≤ length (now output) ⌝ }
     ensures { λ r. ⌜ Gives
-        (taped (now (line .entry)) words (keptOf (storeOf (now (slots .entry)) (now (counts .entry))) (now (tape .entry)) waiting))
-        (now (output .entry)) (r .bytes) (r .waiting) (storeOf (now (slots .entry)) (now (counts .entry))) (now (tape .exit)) (now (output .exit)) ⌝ }
+        (taped (now (line .entry)) words (keptOf (plainStoreOf (now (slots .entry)) (now (counts .entry)) (now (tallies .entry))) (now (tape .entry)) waiting))
+        (now (output .entry)) (r .bytes) (r .waiting) (plainStoreOf (now (slots .entry)) (now (counts .entry)) (now (tallies .entry))) (now (tape .exit)) (now (output .exit)) ⌝ }
 {
     if tape.len() - waiting < words {
         let full = Cause::TapeFull.number();

@@ -6,8 +6,8 @@ ghost use mathlib.Core.List.{[]};
 ghost use Prim.Native.Nat.{_≤_};
 ghost use lib.ListN.{length, take};
 ghost use Rattle.call_outcomes.specs.Outcome.{outcome};
-ghost use Rattle.call_outcomes.specs.Plain as call;
-ghost use Rattle.call_outcomes.specs.Plain.{plain, storeOf};
+ghost use Rattle.call_outcomes.specs.PlainCalls as call;
+ghost use Rattle.call_outcomes.specs.Plain.{plain, plainStoreOf};
 ghost use Rattle.call_outcomes.specs.Clubs.{clubs};
 ghost use Rattle.frame_answers.specs.Step.{changedBy, changed};
 ghost use Rattle.frame_answers.specs.Gives.{keptOf, Gives};
@@ -18,6 +18,7 @@ fn change_answer(
     back: Returned,
     slots: &[u64],
     counts: &[u16],
+    tallies: &[u16],
     tape: &mut [u32],
     waiting: usize,
     output: &mut [u8],
@@ -26,9 +27,9 @@ fn change_answer(
     requires waiting { ⌜ waiting ≤ length (now tape) ⌝ }
     requires room { ⌜ 9 ≤ length (now output) ⌝ }
     ensures { λ r. ⌜ Gives
-        (changedBy kind (keptOf (storeOf (now (slots .entry)) (now (counts .entry))) (now (tape .entry)) waiting) back
-        (storeOf (now (slots .entry)) (now (counts .entry))))
-        (now (output .entry)) (r .bytes) (r .waiting) (storeOf (now (slots .entry)) (now (counts .entry))) (now (tape .exit)) (now (output .exit)) ⌝ }
+        (changedBy kind (keptOf (plainStoreOf (now (slots .entry)) (now (counts .entry)) (now (tallies .entry))) (now (tape .entry)) waiting) back
+        (plainStoreOf (now (slots .entry)) (now (counts .entry)) (now (tallies .entry))))
+        (now (output .entry)) (r .bytes) (r .waiting) (plainStoreOf (now (slots .entry)) (now (counts .entry)) (now (tallies .entry))) (now (tape .exit)) (now (output .exit)) ⌝ }
 {
     let words = back.second;
     frame_tape::read_off(tape, words);
@@ -46,6 +47,7 @@ fn change_line(
     entry: u64,
     slots: &mut [u64],
     counts: &mut [u16],
+    tallies: &mut [u16],
     tape: &mut [u32],
     waiting: usize,
     output: &mut [u8],
@@ -53,18 +55,26 @@ fn change_line(
     requires waiting { ⌜ waiting ≤ length (now tape) ⌝ }
     requires room { ⌜ 9 ≤ length (now output) ⌝ }
     ensures { λ r. ⌜ Gives
-        (changed kind (keptOf (storeOf (now (slots .entry)) (now (counts .entry))) (now (tape .entry)) waiting)
-        (outcome (plain clubs) (call.changing change entry) (take waiting (now (tape .entry))) (storeOf (now (slots .entry)) (now (counts .entry))) []))
-        (now (output .entry)) (r .bytes) (r .waiting) (storeOf (now (slots .exit)) (now (counts .exit))) (now (tape .exit)) (now (output .exit)) ⌝ }
+        (changed kind (keptOf (plainStoreOf (now (slots .entry)) (now (counts .entry)) (now (tallies .entry))) (now (tape .entry)) waiting)
+        (outcome (plain clubs) (call.changing change entry) (take waiting (now (tape .entry))) (plainStoreOf (now (slots .entry)) (now (counts .entry)) (now (tallies .entry))) []))
+        (now (output .entry)) (r .bytes) (r .waiting) (plainStoreOf (now (slots .exit)) (now (counts .exit)) (now (tallies .exit))) (now (tape .exit)) (now (output .exit)) ⌝ }
 {
-    let back = sheet_calls::make_change(slots, counts, change, entry, &tape[..waiting]).returned();
-    change_answer(kind, back, slots, counts, tape, waiting, output)
+    let back = sheet_calls::make_change(
+        slots,
+        counts,
+        tallies,
+        change,
+        entry,
+        &tape[..waiting],
+    ).returned();
+    change_answer(kind, back, slots, counts, tallies, tape, waiting, output)
 }
 
 // An insert.
 pub fn insert_line(
     slots: &mut [u64],
     counts: &mut [u16],
+    tallies: &mut [u16],
     tape: &mut [u32],
     waiting: usize,
     rank: usize,
@@ -74,9 +84,9 @@ pub fn insert_line(
     requires waiting { ⌜ waiting ≤ length (now tape) ⌝ }
     requires room { ⌜ 9 ≤ length (now output) ⌝ }
     ensures { λ r. ⌜ Gives
-        (changed 129 (keptOf (storeOf (now (slots .entry)) (now (counts .entry))) (now (tape .entry)) waiting)
-        (outcome (plain clubs) (call.insert rank entry) (take waiting (now (tape .entry))) (storeOf (now (slots .entry)) (now (counts .entry))) []))
-        (now (output .entry)) (r .bytes) (r .waiting) (storeOf (now (slots .exit)) (now (counts .exit))) (now (tape .exit)) (now (output .exit)) ⌝ }
+        (changed 129 (keptOf (plainStoreOf (now (slots .entry)) (now (counts .entry)) (now (tallies .entry))) (now (tape .entry)) waiting)
+        (outcome (plain clubs) (call.insert rank entry) (take waiting (now (tape .entry))) (plainStoreOf (now (slots .entry)) (now (counts .entry)) (now (tallies .entry))) []))
+        (now (output .entry)) (r .bytes) (r .waiting) (plainStoreOf (now (slots .exit)) (now (counts .exit)) (now (tallies .exit))) (now (tape .exit)) (now (output .exit)) ⌝ }
 {
     change_line(
         129,
@@ -84,6 +94,7 @@ pub fn insert_line(
         entry,
         slots,
         counts,
+        tallies,
         tape,
         waiting,
         output,
@@ -94,6 +105,7 @@ pub fn insert_line(
 pub fn delete_line(
     slots: &mut [u64],
     counts: &mut [u16],
+    tallies: &mut [u16],
     tape: &mut [u32],
     waiting: usize,
     rank: usize,
@@ -102,9 +114,9 @@ pub fn delete_line(
     requires waiting { ⌜ waiting ≤ length (now tape) ⌝ }
     requires room { ⌜ 9 ≤ length (now output) ⌝ }
     ensures { λ r. ⌜ Gives
-        (changed 130 (keptOf (storeOf (now (slots .entry)) (now (counts .entry))) (now (tape .entry)) waiting)
-        (outcome (plain clubs) (call.delete rank) (take waiting (now (tape .entry))) (storeOf (now (slots .entry)) (now (counts .entry))) []))
-        (now (output .entry)) (r .bytes) (r .waiting) (storeOf (now (slots .exit)) (now (counts .exit))) (now (tape .exit)) (now (output .exit)) ⌝ }
+        (changed 130 (keptOf (plainStoreOf (now (slots .entry)) (now (counts .entry)) (now (tallies .entry))) (now (tape .entry)) waiting)
+        (outcome (plain clubs) (call.delete rank) (take waiting (now (tape .entry))) (plainStoreOf (now (slots .entry)) (now (counts .entry)) (now (tallies .entry))) []))
+        (now (output .entry)) (r .bytes) (r .waiting) (plainStoreOf (now (slots .exit)) (now (counts .exit)) (now (tallies .exit))) (now (tape .exit)) (now (output .exit)) ⌝ }
 {
     change_line(
         130,
@@ -112,6 +124,7 @@ pub fn delete_line(
         0,
         slots,
         counts,
+        tallies,
         tape,
         waiting,
         output,

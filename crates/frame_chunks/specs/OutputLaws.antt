@@ -84,8 +84,8 @@ replies-back replies w = ap (map replyOf) (replies-part replies) ∙ each replie
     each [] w = refl
     each (r ∷ rs) w = ap₂ (λ (x : Reply) (xs : List Reply). x ∷ xs) (reply-back r (w .0)) (each rs (w .1))
 
--- The bytes that answer a frame, read line by line, are its replies: for stores whose numbers fit their widths, as those of lent slices do.
-pub answer-back : (frame : Frame) (line : List ℕ) (k : Kept) → StoreFits (k .store) → StoreFits (answerTo frame line k .kept .store)
+-- The bytes that answer a frame, read line by line, are its replies: for slots and counts that fit their widths, as those of lent slices do.
+pub answer-back : (frame : Frame) (line : List ℕ) (k : Kept) → StoreFits (k .store .sheet) → StoreFits (answerTo frame line k .kept .store .sheet)
     → map replyOf (linesOf (bytesOf (answerTo frame line k .replies))) ≡ answerTo frame line k .replies
 answer-back frame line k before after =
     replies-back (answerTo frame line k .replies) (replies-writable frame line k before after)

@@ -1,7 +1,7 @@
 // The lines that end in a chunk of the input, answered one after the other.
 ghost use Prim.Native.Nat.{_+_, _≤_, _<_};
 ghost use lib.ListN.{length, take};
-ghost use Rattle.call_outcomes.specs.Plain.{storeOf};
+ghost use Rattle.call_outcomes.specs.Plain.{plainStoreOf};
 ghost use Rattle.frame_answers.specs.Step.{TapeReady, longest};
 ghost use Rattle.frame_answers.specs.Gives.{keptOf};
 ghost use Rattle.frame_chunks.specs.Chunk.{standing, Held, AnswersLine, AnswersLines};
@@ -25,21 +25,23 @@ fn answer_line(
     have: usize,
     slots: &mut [u64],
     counts: &mut [u16],
+    tallies: &mut [u16],
     tape: &mut [u32],
     waiting: usize,
     output: &mut [u8],
     at: usize,
 ) -> Stepped
     requires line { ⌜ have ≤ length (now line) ⌝ }
-    requires tape { ⌜ TapeReady (keptOf (storeOf (now slots) (now counts)) (now tape) waiting) ⌝ }
+    requires tape { ⌜ TapeReady (keptOf (plainStoreOf (now slots) (now counts) (now tallies)) (now tape) waiting) ⌝ }
     requires room { ⌜ at + longest ≤ length (now output) ⌝ }
-    ensures { λ r. ⌜ AnswersLine (take have (now (line .entry))) (keptOf (storeOf (now (slots .entry)) (now (counts .entry))) (now (tape .entry)) waiting) (now (output .entry)) at
-        (r .bytes) (keptOf (storeOf (now (slots .exit)) (now (counts .exit))) (now (tape .exit)) (r .waiting)) (now (output .exit)) ⌝ }
+    ensures { λ r. ⌜ AnswersLine (take have (now (line .entry))) (keptOf (plainStoreOf (now (slots .entry)) (now (counts .entry)) (now (tallies .entry))) (now (tape .entry)) waiting) (now (output .entry)) at
+        (r .bytes) (keptOf (plainStoreOf (now (slots .exit)) (now (counts .exit)) (now (tallies .exit))) (now (tape .exit)) (r .waiting)) (now (output .exit)) ⌝ }
 {
     frames::step(
         &line[..have],
         slots,
         counts,
+        tallies,
         tape,
         waiting,
         &mut output[at..],
@@ -52,17 +54,18 @@ fn answer_next(
     line: &mut [u8],
     slots: &mut [u64],
     counts: &mut [u16],
+    tallies: &mut [u16],
     tape: &mut [u32],
     output: &mut [u8],
     before: Progress,
 ) -> Progress
-    requires held { ⌜ Held (standing (before .next) (now line) (before .have) (keptOf (storeOf (now slots) (now counts)) (now tape) (before .waiting))) ⌝ }
+    requires held { ⌜ Held (standing (before .next) (now line) (before .have) (keptOf (plainStoreOf (now slots) (now counts) (now tallies)) (now tape) (before .waiting))) ⌝ }
     requires more { ⌜ before .next < length (now chunk) ⌝ }
     requires room { ⌜ before .bytes + longest ≤ length (now output) ⌝ }
     ensures { λ r. ⌜ AnswersLines (now (chunk .entry))
-        (standing (before .next) (now (line .entry)) (before .have) (keptOf (storeOf (now (slots .entry)) (now (counts .entry))) (now (tape .entry)) (before .waiting)))
+        (standing (before .next) (now (line .entry)) (before .have) (keptOf (plainStoreOf (now (slots .entry)) (now (counts .entry)) (now (tallies .entry))) (now (tape .entry)) (before .waiting)))
         (now (output .entry)) (before .bytes)
-        (standing (r .next) (now (line .exit)) (r .have) (keptOf (storeOf (now (slots .exit)) (now (counts .exit))) (now (tape .exit)) (r .waiting)))
+        (standing (r .next) (now (line .exit)) (r .have) (keptOf (plainStoreOf (now (slots .exit)) (now (counts .exit)) (now (tallies .exit))) (now (tape .exit)) (r .waiting)))
         (now (output .exit)) (r .bytes) × (before .next < r .next) ⌝ }
 {
     let collected = frame_input::collect(chunk, before.next, line, before.have);
@@ -80,6 +83,7 @@ fn answer_next(
         collected.have,
         slots,
         counts,
+        tallies,
         tape,
         before.waiting,
         output,
@@ -102,15 +106,16 @@ pub fn answer_lines(
     have: usize,
     slots: &mut [u64],
     counts: &mut [u16],
+    tallies: &mut [u16],
     tape: &mut [u32],
     waiting: usize,
     output: &mut [u8],
 ) -> Progress
-    requires held { ⌜ Held (standing from (now line) have (keptOf (storeOf (now slots) (now counts)) (now tape) waiting)) ⌝ }
+    requires held { ⌜ Held (standing from (now line) have (keptOf (plainStoreOf (now slots) (now counts) (now tallies)) (now tape) waiting)) ⌝ }
     ensures { λ r. ⌜ AnswersLines (now (chunk .entry))
-        (standing from (now (line .entry)) have (keptOf (storeOf (now (slots .entry)) (now (counts .entry))) (now (tape .entry)) waiting))
+        (standing from (now (line .entry)) have (keptOf (plainStoreOf (now (slots .entry)) (now (counts .entry)) (now (tallies .entry))) (now (tape .entry)) waiting))
         (now (output .entry)) 0
-        (standing (r .next) (now (line .exit)) (r .have) (keptOf (storeOf (now (slots .exit)) (now (counts .exit))) (now (tape .exit)) (r .waiting)))
+        (standing (r .next) (now (line .exit)) (r .have) (keptOf (plainStoreOf (now (slots .exit)) (now (counts .exit)) (now (tallies .exit))) (now (tape .exit)) (r .waiting)))
         (now (output .exit)) (r .bytes)
         × (from < length (now (chunk .entry)) → longest ≤ length (now (output .entry)) → from < r .next) ⌝ }
 {
@@ -124,7 +129,7 @@ pub fn answer_lines(
         if output.len() - reached.bytes < LONGEST {
             return reached;
         }
-        reached = answer_next(chunk, line, slots, counts, tape, output, reached);
+        reached = answer_next(chunk, line, slots, counts, tallies, tape, output, reached);
     }
     reached
 }

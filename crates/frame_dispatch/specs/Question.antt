@@ -1,6 +1,6 @@
 -- The frames that only ask, and their answers. Definitions only.
 use mathlib.Core.List.{List, []}
-use Rattle.store_layout.specs.Layout.{Store}
+use Rattle.call_outcomes.specs.Plain.{PlainStore}
 use Rattle.frame_lines.specs.declared.Frame.{Frame}
 use Rattle.frame_lines.specs.declared.Frame.the-variants.{Insert, Delete, Read, Tape, Print, Clear, Place, NoFrame}
 use Rattle.frame_replies.specs.Reply.{Reply}
@@ -19,5 +19,5 @@ Asks (Place rank) = Unit {0}
 Asks NoFrame = Unit {0}
 
 -- Its answer, which the line and the tape do not bear on.
-unfoldable pub repliesTo : Frame → Store → List Reply
+unfoldable pub repliesTo : Frame → PlainStore → List Reply
 repliesTo frame store = answerTo frame [] (keptOf store [] 0) .replies

@@ -21,7 +21,9 @@ use Rattle.call_outcomes.specs.Returns.{returned}
 use Rattle.call_outcomes.specs.Causes.{accept, decision}
 use Rattle.call_outcomes.specs.Outcome.{Outcome, outcome}
 use Rattle.call_outcomes.specs.AnswerLaws.{number-accepted}
-use Rattle.call_outcomes.specs.Plain.{RightLengths, countOf, plain, check, storeOf, outcomeOf}
+use Rattle.call_outcomes.specs.PlainCalls.{countOf, check}
+use Rattle.call_outcomes.specs.Untallied.{RightLengths, untallied, storeOf}
+use Rattle.call_outcomes.specs.Plain.{plain, PlainStore, plainStoreOf, plainOutcomeOf}
 use Rattle.call_outcomes.specs.AcceptedLaws.{question-lengths, question-decoded}
 use Rattle.call_outcomes.specs.Clubs.{clubs}
 use Rattle.call_outcomes.specs.ClubsLaws.{clubs-roomy}
@@ -31,6 +33,7 @@ use Rattle.frame_replies.specs.Wrote.{Wrote}
 use Rattle.frame_replies.specs.WroteLaws.{wrote-length, wrote-more, writing-start, writing-next, writing-done}
 use Rattle.frame_answers.specs.Step.{entryCount, leafReply, leafReplies, leavesOf, sheetReplies, printReplies, printLines, longest}
 use Rattle.frame_print.specs.Printed.{PrintReady, leavesMost, LeavesWritten}
+use Rattle.frame_answers.specs.QuestionLaws.{sheet-asked}
 use Rattle.frame_answers.specs.StepLaws.{one-line}
 
 -- ---- the leaves
@@ -115,46 +118,47 @@ module _ (store : Store) (sheet : PrintReady store) where
 module _ (slots counts : List ℕ) {output middle : List ℕ} {at next : ℕ}
     (first : Wrote output at (lineOf (sheet (getD counts 0 0) (getD counts 1 0))) middle next) where
   pub sheet-empty : getD counts 0 0 ≡ 0 → Wrote output at (bytesOf (sheetReplies (storeOf slots counts))) middle next
-  unfolding sheetReplies leavesOf leafReplies entryCount
+  unfolding sheetReplies leavesOf leafReplies
   sheet-empty e = rw (ifEq-yes (getD counts 0 0) 0 _ _ e) (one-line _ first)
 
   pub sheet-leaves : getD counts 0 0 ≢ 0 → {s leaves : ℕ} → LeafNumbers (storeOf slots counts) s leaves
       → {read : List ℕ} → read ≡ numberOrder (height (getD counts 0 0)) counts → {output′ : List ℕ} {end : ℕ}
       → Wrote middle next (bytesOf (leafReplies slots read s leaves 0 leaves)) output′ end
       → Wrote output at (bytesOf (sheetReplies (storeOf slots counts))) output′ end
-  unfolding sheetReplies leavesOf bytesOf entryCount numbered
+  unfolding sheetReplies leavesOf bytesOf numbered
   sheet-leaves ne numbers read more =
       rw (ifEq-no (getD counts 0 0) 0 _ _ ne) (wrote-more first (rw (numbers .slots-are, numbers .leaves-are, read) at more))
 
 -- ---- the answer
 
-module _ {o : Outcome Store} {given : Answer} {slots counts : List ℕ} {back : Returned} (done : outcomeOf given slots counts [] ≡ o) (is : back ≡ returned given)
-    {output middle : List ℕ} {next : ℕ} (first : Wrote output 0 (lineOf (brief 133 (back .number) (getD counts 1 0))) middle next) where
-  pub print-refused : back .number ≢ 0 → Wrote output 0 (bytesOf (printLines o (storeOf slots counts))) middle next
+module _ {o : Outcome PlainStore} {given : Answer} {slots counts tallies : List ℕ} {back : Returned}
+    (done : plainOutcomeOf given slots counts tallies [] ≡ o) (is : back ≡ returned given) {output middle : List ℕ} {next : ℕ} (first : Wrote output 0 (lineOf (brief 133 (back .number) (getD counts 1 0))) middle next) where
+  pub print-refused : back .number ≢ 0 → Wrote output 0 (bytesOf (printLines o (plainStoreOf slots counts tallies))) middle next
   unfolding printLines printReplies entryCount
   print-refused ne = rw (← done, ← is, ifEq-no (back .number) 0 _ _ ne) (one-line _ first)
 
   pub print-accepted : back .number ≡ 0 → {output′ : List ℕ} {end : ℕ} → Wrote middle next (bytesOf (sheetReplies (storeOf slots counts))) output′ end
-      → Wrote output 0 (bytesOf (printLines o (storeOf slots counts))) output′ end
+      → Wrote output 0 (bytesOf (printLines o (plainStoreOf slots counts tallies))) output′ end
   unfolding printLines printReplies bytesOf entryCount
   print-accepted e more = rw (← done, ← is, ifEq-yes (back .number) 0 _ _ e) (wrote-more first more)
 
 -- A store that is a sheet of the clubs' can be printed.
-module _ (store : Store) (given : Answer) (slots counts : List ℕ) (back : Returned)
-    (done : outcomeOf given slots counts [] ≡ outcome (plain clubs) check [] store []) (is : back ≡ returned given) (zero-is : back .number ≡ 0) where
-  checked : (before : Contents) × (decision (plain clubs) check store ≡ accept before)
+module _ (store : PlainStore) (given : Answer) (slots counts tallies : List ℕ) (back : Returned)
+    (done : plainOutcomeOf given slots counts tallies [] ≡ outcome (plain clubs) check [] store []) (is : back ≡ returned given) (zero-is : back .number ≡ 0) where
+  checked : (before : Contents) × (decision (untallied clubs) check (store .sheet) ≡ accept before)
   checked =
       let same : returned (outcome (plain clubs) check [] store [] .answer) ≡ back = rw (← done, is) in
-      number-accepted (plain clubs) check [] store [] (rw same zero-is)
+      let a = number-accepted (plain clubs) check [] store [] (rw same zero-is) in
+      (a .0, sheet-asked store (a .0) countOf (a .1))
 
-  lengths : RightLengths clubs store
-  lengths = question-lengths clubs store (checked .0) countOf (checked .1)
+  lengths : RightLengths clubs (store .sheet)
+  lengths = question-lengths clubs (store .sheet) (checked .0) countOf (checked .1)
 
-  pub printable : PrintReady store
+  pub printable : PrintReady (store .sheet)
   printable =
-      let found = question-decoded clubs store (checked .0) countOf (checked .1) in
-      let valid = decode-sound clubs store (checked .0) found .0 in
-      let size = size-known clubs store (checked .0) found in
+      let found = question-decoded clubs (store .sheet) (checked .0) countOf (checked .1) in
+      let valid = decode-sound clubs (store .sheet) (checked .0) found .0 in
+      let size = size-known clubs (store .sheet) (checked .0) found in
       record {
         size = rw size (omega (arith, valid .shape .allowed .most, valid .room));
         slots-fit = rw (size, lengths .slots) (clubs-roomy .slots-fit _ _ (valid .room) (valid .shape .allowed));
@@ -163,6 +167,6 @@ module _ (store : Store) (given : Answer) (slots counts : List ℕ) (back : Retu
       }
 
   -- the longest answer has room for its lines
-  pub print-room : 20 + leavesMost store ≤ longest
+  pub print-room : 20 + leavesMost (store .sheet) ≤ longest
   unfolding leavesMost
   print-room = rw (lengths .slots, lengths .counts) (omega arith)

@@ -4,8 +4,9 @@ ghost use mathlib.Core.List.{[]};
 ghost use Prim.Native.Nat.{_+_, _*_, _<_, _≤_};
 ghost use lib.ListN.{length};
 ghost use Rattle.call_outcomes.specs.Outcome.{outcome};
-ghost use Rattle.call_outcomes.specs.Plain as call;
-ghost use Rattle.call_outcomes.specs.Plain.{plain, storeOf};
+ghost use Rattle.call_outcomes.specs.PlainCalls as call;
+ghost use Rattle.call_outcomes.specs.Untallied.{storeOf};
+ghost use Rattle.call_outcomes.specs.Plain.{plain, plainStoreOf};
 ghost use Rattle.call_outcomes.specs.Clubs.{clubs};
 ghost use Rattle.frame_replies.specs.Reply.{bytesOf, lineOf};
 ghost use Rattle.frame_replies.specs.Wrote.{Wrote};
@@ -72,18 +73,18 @@ fn print_sheet(slots: &[u64], counts: &[u16], output: &mut [u8], at: usize) -> u
     let s = size.leaf_slots();
     let leaves = tree_sizes::power(size.height());
     let mut numbered = [0u32; 256];
-    store_counts::read_counts(counts, &mut numbered);
+    store_counts::read_counts(size, counts, &mut numbered);
     print_leaves(slots, &numbered, s, leaves, output, next)
 }
 
 // A print.
-pub fn print_line(slots: &[u64], counts: &[u16], output: &mut [u8]) -> usize
+pub fn print_line(slots: &[u64], counts: &[u16], tallies: &[u16], output: &mut [u8]) -> usize
     requires { ⌜ longest ≤ length (now output) ⌝ }
     ensures { λ r. ⌜ Wrote (now (output .entry)) 0
-        (bytesOf (printLines (outcome (plain clubs) call.check [] (storeOf (now (slots .entry)) (now (counts .entry))) []) (storeOf (now (slots .entry)) (now (counts .entry)))))
+        (bytesOf (printLines (outcome (plain clubs) call.check [] (plainStoreOf (now (slots .entry)) (now (counts .entry)) (now (tallies .entry))) []) (plainStoreOf (now (slots .entry)) (now (counts .entry)) (now (tallies .entry)))))
         (now (output .exit)) r ⌝ }
 {
-    let number = sheet_calls::check(slots, counts).returned().number;
+    let number = sheet_calls::check(slots, counts, tallies).returned().number;
     let next = frame_answers::answer(output, 133, number, counts);
     if number != 0 {
         return next;

@@ -8,7 +8,8 @@ use Rattle.base.specs.Lists.{Every}
 use Rattle.call_outcomes.specs.Kind.{clear}
 use Rattle.call_outcomes.specs.Returns.{returned}
 use Rattle.call_outcomes.specs.Outcome.{outcome}
-use Rattle.call_outcomes.specs.Plain.{plain, Call, insert, delete, read, place, check}
+use Rattle.call_outcomes.specs.PlainCalls.{Call, insert, delete, read, place, check}
+use Rattle.call_outcomes.specs.Plain.{plain}
 use Rattle.call_outcomes.specs.Clubs.{clubs}
 use Rattle.call_history.specs.History.{Sent}
 use Rattle.frame_lines.specs.declared.Frame.{Frame}

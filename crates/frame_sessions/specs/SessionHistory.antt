@@ -9,15 +9,16 @@ use Rattle.base.specs.Cases.{ifEq}
 use Rattle.base.specs.Lists.{Every}
 use Rattle.base.specs.CaseLaws.{ifEq-no}
 use Rattle.draw_shares.specs.Course.{Follows}
-use Rattle.store_layout.specs.Layout.{Store}
 use Rattle.store_layout.specs.EmptyLaws.{empty-slots, empty-counts}
+use Rattle.store_tallies.specs.LayLaws.{empty-tallies}
 use Rattle.call_outcomes.specs.declared.Cause.the-variants.{TapeEnded}
 use Rattle.call_outcomes.specs.declared.Answer.{Answer}
 use Rattle.call_outcomes.specs.declared.Answer.the-variants.{Refused}
 use Rattle.call_outcomes.specs.Returns.{returned}
 use Rattle.call_outcomes.specs.Kind.{Kind, StoreFor}
-use Rattle.call_outcomes.specs.Plain.{RightLengths, plain, Call, storeOf}
-use Rattle.call_outcomes.specs.PlainLaws.{lengths-right}
+use Rattle.call_outcomes.specs.PlainCalls.{Call}
+use Rattle.call_outcomes.specs.Plain.{plain, PlainStore, PlainLengths, plainStoreOf}
+use Rattle.call_outcomes.specs.PlainLaws.{plain-right}
 use Rattle.call_outcomes.specs.Clubs.{clubs, zeros}
 use Rattle.call_outcomes.specs.ClubsLaws.{clubs-lawful}
 use Rattle.call_history.specs.History.{history, listAtEnd, Sent, SentTo, clearing, storeAfter, lastStore, NoneEnds, facesSent, callsOf}
@@ -99,22 +100,25 @@ none-over (line ∷ lines) k h =
 
 -- ---- the session as a history
 
-zeros-right : RightLengths clubs zeros
-zeros-right = record { slots = length-replicate {A = ℕ} (clubs .slots) 0; counts = length-replicate {A = ℕ} (clubs .counts) 0 }
+zeros-right : PlainLengths clubs zeros
+zeros-right = record {
+  sheet = record { slots = length-replicate {A = ℕ} (clubs .slots) 0; counts = length-replicate {A = ℕ} (clubs .counts) 0 };
+  tallies = length-replicate {A = ℕ} (clubs .counts) 0;
+}
 
 -- Clearing leaves the zeros as they are.
 clearing-keeps : storeAfter (plain clubs) (clearing (plain clubs)) zeros ≡ zeros
 unfolding storeAfter clearing
 clearing-keeps =
-    clear-leaves (plain clubs) zeros (lengths-right clubs zeros zeros-right) .1
-    ∙ ap₂ (λ (xs ys : List ℕ). storeOf xs ys) (empty-slots clubs) (empty-counts clubs)
+    clear-leaves (plain clubs) zeros (plain-right clubs zeros zeros-right) .1
+    ∙ (λ i. plainStoreOf (empty-slots clubs i) (empty-counts clubs i) (empty-tallies (clubs .counts) i))
 
 module _ (lines : List (List ℕ)) (none : NoneSays07 lines atStart) where
   no-call-ends : NoneEnds (plain clubs) (clearing (plain clubs) ∷ sentOver lines atStart) zeros
   unfolding NoneEnds atStart clearing
   no-call-ends = (
     λ e.
-        let done = clear-leaves (plain clubs) zeros (lengths-right clubs zeros zeros-right) .0 in
+        let done = clear-leaves (plain clubs) zeros (plain-right clubs zeros zeros-right) .0 in
         let z : _≡_ {A = ℕ} 0 1 = cc in omega arith,
     rw clearing-keeps (none-over lines atStart none),
   )
@@ -124,7 +128,7 @@ module _ (lines : List (List ℕ)) (none : NoneSays07 lines atStart) where
   last-is = ap (lastStore (plain clubs) (sentOver lines atStart)) clearing-keeps ∙ sym (session-store lines atStart)
 
   -- Whatever the words, the session leaves the store with which the course ends, of the history of its calls, whose faces the words decide.
-  pub session-words : (final : Store)
+  pub session-words : (final : PlainStore)
       → Follows (history (plain clubs) (callsIn lines) zeros) (facesSent (plain clubs) (clearing (plain clubs) ∷ sentOver lines atStart) zeros) final
       ↔ (final ≡ keptAfter lines atStart .store)
   session-words final = rw (← session-calls lines atStart, ← last-is) (words (sentOver lines atStart) zeros no-call-ends final)
@@ -133,4 +137,4 @@ module _ (lines : List (List ℕ)) (none : NoneSays07 lines atStart) where
   pub session-sheet : ClubSheet (listAtEnd (plain clubs) (callsIn lines)) (keptAfter lines atStart .store)
   session-sheet =
       rw (← session-calls lines atStart, ← last-is)
-      (last-sheet (plain clubs) clubs-lawful (sentOver lines atStart) zeros (lengths-right clubs zeros zeros-right) no-call-ends)
+      (last-sheet (plain clubs) clubs-lawful (sentOver lines atStart) zeros (plain-right clubs zeros zeros-right) no-call-ends)

@@ -9,7 +9,8 @@ use lib.ListN.{length, take, drop, replicate, length-drop, take-append-drop}
 use lib.Seq.{length-take-le, take-nil, take-all, take-append-le, take-append-add}
 use Rattle.base.specs.CaseLaws.{by-lt, ifLt-yes, ifLt-no, lt-or-ge}
 use Rattle.call_outcomes.specs.Kind.{Kind, StoreFor}
-use Rattle.call_outcomes.specs.Plain.{insertAt, deleteAt, plain}
+use Rattle.call_outcomes.specs.PlainCalls.{insertAt, deleteAt}
+use Rattle.call_outcomes.specs.Plain.{plain}
 use Rattle.call_outcomes.specs.Clubs.{clubs}
 use Rattle.call_outcomes.specs.DecisionLaws.{question-keeps}
 use Rattle.call_outcomes.specs.AnswerLaws.{words-within}

@@ -1,7 +1,7 @@
 // The frames of the program: one step on a line, and the reading of a line for programs in C.
 use frame_answers::Stepped;
 ghost use mathlib.Core.Path.{_≡_};
-ghost use Rattle.call_outcomes.specs.Plain.{storeOf};
+ghost use Rattle.call_outcomes.specs.Plain.{plainStoreOf};
 ghost use Rattle.frame_lines.specs.Frame.{kindOf};
 ghost use Rattle.frame_answers.specs.Step.{stepOf};
 ghost use Rattle.frame_answers.specs.Gives.{keptOf};
@@ -21,12 +21,13 @@ pub fn step(
     line: &[u8],
     slots: &mut [u64],
     counts: &mut [u16],
+    tallies: &mut [u16],
     tape: &mut [u32],
     waiting: usize,
     output: &mut [u8],
 ) -> Stepped
-    ensures { λ r. ⌜ record { bytes = r .bytes; kept = keptOf (storeOf (now (slots .exit)) (now (counts .exit))) (now (tape .exit)) (r .waiting); output = now (output .exit) }
-        ≡ stepOf (now (line .entry)) (keptOf (storeOf (now (slots .entry)) (now (counts .entry))) (now (tape .entry)) waiting) (now (output .entry)) ⌝ }
+    ensures { λ r. ⌜ record { bytes = r .bytes; kept = keptOf (plainStoreOf (now (slots .exit)) (now (counts .exit)) (now (tallies .exit))) (now (tape .exit)) (r .waiting); output = now (output .exit) }
+        ≡ stepOf (now (line .entry)) (keptOf (plainStoreOf (now (slots .entry)) (now (counts .entry)) (now (tallies .entry))) (now (tape .entry)) waiting) (now (output .entry)) ⌝ }
 {
     let nothing = Stepped {
         bytes: 0,
@@ -42,7 +43,7 @@ pub fn step(
         return nothing;
     }
     let frame = frame_lines::decode(line);
-    frame_dispatch::answer_frame(frame, line, slots, counts, tape, waiting, output)
+    frame_dispatch::answer_frame(frame, line, slots, counts, tallies, tape, waiting, output)
 }
 
 // The step for programs in C: the number of words that wait stands in a slice of one number, before the step and after it. Where that
@@ -52,18 +53,19 @@ pub extern "C" fn frame_step(
     line: &[u8],
     slots: &mut [u64],
     counts: &mut [u16],
+    tallies: &mut [u16],
     tape: &mut [u32],
     waiting: &mut [u64],
     output: &mut [u8],
 ) -> usize
-    ensures { λ r. ⌜ record { bytes = r; store = storeOf (now (slots .exit)) (now (counts .exit)); tape = now (tape .exit); waiting = now (waiting .exit); output = now (output .exit) }
-        ≡ frameStep (now (line .entry)) (storeOf (now (slots .entry)) (now (counts .entry))) (now (tape .entry)) (now (waiting .entry)) (now (output .entry)) ⌝ }
+    ensures { λ r. ⌜ record { bytes = r; store = plainStoreOf (now (slots .exit)) (now (counts .exit)) (now (tallies .exit)); tape = now (tape .exit); waiting = now (waiting .exit); output = now (output .exit) }
+        ≡ frameStep (now (line .entry)) (plainStoreOf (now (slots .entry)) (now (counts .entry)) (now (tallies .entry))) (now (tape .entry)) (now (waiting .entry)) (now (output .entry)) ⌝ }
 {
     if waiting.len() < 1 {
         return 0;
     }
     let before = waiting[0] as usize;
-    let stepped = step(line, slots, counts, tape, before, output);
+    let stepped = step(line, slots, counts, tallies, tape, before, output);
     waiting[0] = stepped.waiting as u64;
     stepped.bytes
 }

@@ -1,34 +1,41 @@
 -- The reviewer's page: what is claimed of the clubs' sheets, a sentence and a theorem each. The definitions that the statements name stand in
--- store_order (TreeOrder), store_ties (Groups, Ties), store_keys (Key), call_outcomes (Kind, Causes, Outcome, Plain, Clubs), call_timed (Timed),
--- call_orders (Conversion, NumberOrder, Converts), call_history (History, TapeRuns), frame_sessions (Session) and frame_chunks (Chunk, Input).
+-- store_order (TreeOrder), store_scoring (Scoring), store_tallies (Tallies, TalliesIn, HoldsTallies), store_ties (Groups, Ties), store_keys (Key),
+-- call_outcomes (Kind, Causes, Outcome, PlainCalls, Untallied, Slice, Plain, Clubs), call_timed (Timed), call_orders (Conversion, NumberOrder,
+-- Converts), call_history (History, TapeRuns), frame_sessions (Session) and frame_chunks (Chunk, Input).
 use mathlib.Core.Path.{_≡_}
-use mathlib.Core.Bool.{Bool, true}
+use mathlib.Core.Bool.{Bool, true, false}
 use mathlib.Core.Logic.{_≢_, _↔_}
 use mathlib.Core.List.{List, [], _∷_, _++_, map}
 use mathlib.Core.Option.{some}
-use Prim.Native.Nat.{ℕ, _+_, _-_, _^_, _≤_, _<_}
-use lib.ListN.{length, getD}
+use Prim.Native.Nat.{ℕ, _+_, _-_, _*_, _^_, _≤_, _<_}
+use lib.ListN.{length, getD, take, drop}
 use Rattle.base.specs.Lists.{Every, total}
 use Rattle.draw_shares.specs.Program.{Among, Draws}
 use Rattle.draw_shares.specs.Fraction.{_≐_, whole, unit}
 use Rattle.draw_shares.specs.Course.{Follows, share}
+use Rattle.tree_sizes.specs.Sizes.{height}
 use Rattle.tree_rules.specs.declared.Change.{Change}
 use Rattle.tree_rules.specs.declared.Change.the-variants.{Insert}
 use Rattle.tree_rules.specs.Tree.{Shape, IsShape}
 use Rattle.tree_rules.specs.ChangeList.{changeList}
+use Rattle.tree_counts.specs.Counts.{shapeCounts}
 use Rattle.tree_canonical.specs.ShapeShare.{shapeProduct}
 use Rattle.store_order.specs.Occurs.{occurs}
 use Rattle.store_order.specs.TreeOrder.{treeOrder}
 use Rattle.store_order.specs.TreeOrderLaws.{order-permutes}
+use Rattle.store_order.specs.CountOrder.{numberOrder}
 use Rattle.store_order.specs.Copied.{up}
 use Rattle.store_layout.specs.Layout.{Store, layOut}
+use Rattle.store_layout.specs.Sheet.{IsContents}
 use Rattle.call_outcomes.specs.declared.Cause.{Cause}
 use Rattle.call_outcomes.specs.declared.Cause.the-variants.{NotASheet, NotTimed, EntryPresent, TapeEnded}
 use Rattle.call_outcomes.specs.declared.Answer.the-variants.{Checked, Changed, Present, Converted, Refused}
 use Rattle.call_outcomes.specs.Causes.{argumentCause}
 use Rattle.call_outcomes.specs.Outcome.{outcome, callProgram}
-use Rattle.call_outcomes.specs.Plain.{IsList, RightLengths, equalStores, plainView, plain, Call, delete, place, check, placed, changing}
-use Rattle.call_outcomes.specs.PlainLaws.{lengths-right}
+use Rattle.call_outcomes.specs.PlainCalls.{Call, delete, place, check, placed, changing}
+use Rattle.call_outcomes.specs.Untallied.{IsList, untallied}
+use Rattle.call_outcomes.specs.Plain.{plainView, plain, PlainStore, PlainLengths, layPlain, equalPlain}
+use Rattle.call_outcomes.specs.PlainLaws.{plain-right}
 use Rattle.call_outcomes.specs.Clubs.{clubs, zeros}
 use Rattle.call_outcomes.specs.ClubsLaws.{clubs-roomy, clubs-lawful}
 use Rattle.call_outcomes.specs.LongerTapeLaws as longer
@@ -48,10 +55,19 @@ use Rattle.call_history.specs.Clause as clause
 use Rattle.call_history.specs.ClubSheets as sheets
 use Rattle.call_history.specs.ClubSheets.{ClubSheet}
 use Rattle.store_layout.specs.EntryLaws as entries
-use Rattle.store_ties.specs.Groups.{Group, groupFirst, groupEnd, placesSum, single, groupSums}
-use Rattle.store_ties.specs.Ties.{placingIn}
+use Rattle.store_scoring.specs.Scoring.{retiredBit, tally, noneRetired}
+use Rattle.store_tallies.specs.Tallies.{rangeTallies}
+use Rattle.store_tallies.specs.TalliesIn.{IsRange}
+use Rattle.store_tallies.specs.HoldsTallies.{entriesOf}
+use Rattle.store_tallies.specs.LayLaws as tallies
+use Rattle.store_tallies.specs.NoneLaws as none-retired-tallies
+use Rattle.store_tallies.specs.FollowLaws as follow
+use Rattle.store_tallies.specs.EntryLaws as replaced
+use Rattle.store_ties.specs.Groups.{Group, groupFirst, groupEnd, placesSum, placingOf, single, groupSums}
+use Rattle.store_ties.specs.Ties.{tieBit, tiedIn, placingIn, TiesBack, StartsAt}
 use Rattle.store_ties.specs.GroupLaws as groups
 use Rattle.store_ties.specs.PlacingLaws as placings
+use Rattle.store_ties.specs.ExactLaws as exact
 use Rattle.store_keys.specs.Key.{key, Rises, rankOf, present}
 use Rattle.store_keys.specs.KeyLaws as keys
 use Rattle.call_timed.specs.Timed as timed-calls
@@ -74,23 +90,23 @@ use Rattle.frame_chunks.specs.InputLaws as input
 
 -- For every two histories, on stores that held anything at all before, every store has the same share in both exactly when both end with
 -- the same list.
-pub equal-tables : (calls calls′ : List Call) (store store′ : Store) → RightLengths clubs store → RightLengths clubs store′
+pub equal-tables : (calls calls′ : List Call) (store store′ : PlainStore) → PlainLengths clubs store → PlainLengths clubs store′
     → SameTable (plainView clubs) (history (plain clubs) calls store) (history (plain clubs) calls′ store′)
     ↔ (listAtEnd (plain clubs) calls ≡ listAtEnd (plain clubs) calls′)
 equal-tables = clause.clause
 
 -- The shares of a history sum to 1.
-pub shares-sum : (calls : List Call) (store : Store) → RightLengths clubs store → share (λ _. true) (history (plain clubs) calls store) ≐ whole 1
-shares-sum calls store right = shares.shares-sum (plain clubs) clubs-lawful calls store (lengths-right clubs store right)
+pub shares-sum : (calls : List Call) (store : PlainStore) → PlainLengths clubs store → share (λ _. true) (history (plain clubs) calls store) ≐ whole 1
+shares-sum calls store right = shares.shares-sum (plain clubs) clubs-lawful calls store (plain-right clubs store right)
 
 -- A store has a share above 0 exactly when it is a sheet of the list at the end.
-pub positive-shares : (calls : List Call) (store : Store) → RightLengths clubs store → (v : Store)
-    → (¬ (share (equalStores v) (history (plain clubs) calls store) ≐ whole 0)) ↔ ClubSheet (listAtEnd (plain clubs) calls) v
-positive-shares calls store right = shares.positive-sheets (plain clubs) clubs-lawful calls store (lengths-right clubs store right)
+pub positive-shares : (calls : List Call) (store : PlainStore) → PlainLengths clubs store → (v : PlainStore)
+    → (¬ (share (equalPlain v) (history (plain clubs) calls store) ≐ whole 0)) ↔ ClubSheet (listAtEnd (plain clubs) calls) v
+positive-shares calls store right = shares.positive-sheets (plain clubs) clubs-lawful calls store (plain-right clubs store right)
 
 -- Each sheet of the list at the end has the share 1 / N times 1 / c for each range above the leaves.
-pub sheet-shares : (calls : List Call) (store : Store) → RightLengths clubs store → (s : Shape) → IsShape (length (listAtEnd (plain clubs) calls)) s
-    → share (equalStores (layOut clubs (listAtEnd (plain clubs) calls) s)) (history (plain clubs) calls store)
+pub sheet-shares : (calls : List Call) (store : PlainStore) → PlainLengths clubs store → (s : Shape) → IsShape (length (listAtEnd (plain clubs) calls)) s
+    → share (equalPlain (layPlain clubs (listAtEnd (plain clubs) calls) s)) (history (plain clubs) calls store)
     ≐ unit (shapeProduct (length (listAtEnd (plain clubs) calls)) s)
 sheet-shares = clause.sheet-shares
 
@@ -98,71 +114,72 @@ sheet-shares = clause.sheet-shares
 
 -- Whatever words the tapes of the calls hold, if no call returns 7, the calls leave the store with which the course ends whose faces those
 -- words decide.
-pub words-decide : (sent : List (Sent Call)) (store : Store) → NoneEnds (plain clubs) (clearing (plain clubs) ∷ sent) store → (final : Store)
+pub words-decide : (sent : List (Sent Call)) (store : PlainStore) → NoneEnds (plain clubs) (clearing (plain clubs) ∷ sent) store → (final : PlainStore)
     → Follows (history (plain clubs) (callsOf sent) store) (facesSent (plain clubs) (clearing (plain clubs) ∷ sent) store) final
     ↔ (final ≡ lastStore (plain clubs) (clearing (plain clubs) ∷ sent) store)
 words-decide = clause.words
 
 -- The ways to fill the tapes that decide a course of calls, each draw reading its given number of words, are as many as the product over the
 -- draws of the runs of words that one draw has for a face, whatever the faces.
-pub tapes-counted : (calls : List Call) (store : Store) (faces among numbers : List (List ℕ)) → CallsAmong (plain clubs) calls store faces among
+pub tapes-counted : (calls : List Call) (store : PlainStore) (faces among numbers : List (List ℕ)) → CallsAmong (plain clubs) calls store faces among
     → tapeRuns (map total numbers) (tapesDecide (plain clubs) calls store faces numbers) ≡ callsRuns among numbers
 tapes-counted = tapes.tape-runs (plain clubs)
 
 -- So of equally many words every course whose draws are among the same numbers is decided in equally many ways.
-pub tapes-fair : (calls calls′ : List Call) (store store′ : Store) (faces faces′ among numbers : List (List ℕ))
+pub tapes-fair : (calls calls′ : List Call) (store store′ : PlainStore) (faces faces′ among numbers : List (List ℕ))
     → CallsAmong (plain clubs) calls store faces among → CallsAmong (plain clubs) calls′ store′ faces′ among
     → tapeRuns (map total numbers) (tapesDecide (plain clubs) calls store faces numbers)
     ≡ tapeRuns (map total numbers) (tapesDecide (plain clubs) calls′ store′ faces′ numbers)
 tapes-fair = tapes.tapes-fair (plain clubs) (plain clubs)
 
 -- Every draw that a call makes on any sheet is among 1 to 2^32.
-pub draws-among : (list : List ℕ) (store : Store) → ClubSheet list store → (call : Call) → Draws (Among (2 ^ 32)) (callProgram (plain clubs) call store)
+pub draws-among : (list : List ℕ) (store : PlainStore) → ClubSheet list store → (call : Call) → Draws (Among (2 ^ 32)) (callProgram (plain clubs) call store)
 draws-among = program-draws (plain clubs) clubs-lawful clubs-suppliable
 
 -- For every course of a history there are tapes such that no call returns 7 and the words decide this very course.
-pub coins-supplied : (calls : List Call) (store : Store) → RightLengths clubs store → (faces : List ℕ) (v : Store)
+pub coins-supplied : (calls : List Call) (store : PlainStore) → PlainLengths clubs store → (faces : List ℕ) (v : PlainStore)
     → Follows (history (plain clubs) calls store) faces v
     → (sent : List (Sent Call)) × (callsOf sent ≡ calls) × NoneEnds (plain clubs) (clearing (plain clubs) ∷ sent) store
     × (facesSent (plain clubs) (clearing (plain clubs) ∷ sent) store ≡ faces) × (lastStore (plain clubs) (clearing (plain clubs) ∷ sent) store ≡ v)
-coins-supplied calls store right = history-supplied (plain clubs) clubs-lawful clubs-suppliable calls store (lengths-right clubs store right)
+coins-supplied calls store right = history-supplied (plain clubs) clubs-lawful clubs-suppliable calls store (plain-right clubs store right)
 
 -- A call that is not refused by 7 has the same outcome on every longer tape that begins with the same words.
-pub more-tape : (call : Call) (tape more : List ℕ) (store : Store) (output : List ℕ)
+pub more-tape : (call : Call) (tape more : List ℕ) (store : PlainStore) (output : List ℕ)
     → outcome (plain clubs) call tape store output .answer ≢ Refused TapeEnded
     → outcome (plain clubs) call (tape ++ more) store output ≡ outcome (plain clubs) call tape store output
 more-tape = longer.more-tape (plain clubs)
 
 -- Where no call returns 7, whatever the words, the last store is a sheet of the list at the end.
-pub last-sheet : (sent : List (Sent Call)) (store : Store) → RightLengths clubs store → NoneEnds (plain clubs) (clearing (plain clubs) ∷ sent) store
+pub last-sheet : (sent : List (Sent Call)) (store : PlainStore) → PlainLengths clubs store → NoneEnds (plain clubs) (clearing (plain clubs) ∷ sent) store
     → ClubSheet (listAtEnd (plain clubs) (callsOf sent)) (lastStore (plain clubs) (clearing (plain clubs) ∷ sent) store)
-last-sheet sent store right = shares.last-sheet (plain clubs) clubs-lawful sent store (lengths-right clubs store right)
+last-sheet sent store right = shares.last-sheet (plain clubs) clubs-lawful sent store (plain-right clubs store right)
 
 -- A call on a sheet that a cause of its arguments refuses answers with this cause, whatever the words and the shape.
-pub refused-by : (list : List ℕ) (store : Store) → ClubSheet list store → (call : Call) (cause : Cause)
+pub refused-by : (list : List ℕ) (store : PlainStore) → ClubSheet list store → (call : Call) (cause : Cause)
     → argumentCause (plain clubs) call list ≡ some cause → (tape output : List ℕ)
     → outcome (plain clubs) call tape store output .answer ≡ Refused cause
 refused-by = refusals.refused-by (plain clubs) clubs-lawful
 
 -- ---- single calls
 
--- A check of a sheet answers with the length of its list; a check of any other store of the right lengths is refused by cause 2.
-pub check-sheet : (list : List ℕ) (store : Store) → ClubSheet list store → (tape output : List ℕ)
+-- A check of a sheet answers with the length of its list; a check of any other store of the right lengths, such as one with a wrong tally, is
+-- refused by cause 2.
+pub check-sheet : (list : List ℕ) (store : PlainStore) → ClubSheet list store → (tape output : List ℕ)
     → outcome (plain clubs) check tape store output .answer ≡ Checked (length list)
 check-sheet = sheets.check-sheet
 
-pub check-other : (store : Store) → RightLengths clubs store → ((list : List ℕ) → ClubSheet list store → ⊥) → (tape output : List ℕ)
+pub check-other : (store : PlainStore) → PlainLengths clubs store → ((list : List ℕ) → ClubSheet list store → ⊥) → (tape output : List ℕ)
     → outcome (plain clubs) check tape store output .answer ≡ Refused NotASheet
 check-other = sheets.check-other
 
 -- An accepted insert or delete on any sheet leaves a sheet of the changed list.
-pub changed-sheet : (list : List ℕ) (store : Store) → ClubSheet list store → (by : Change) (entry : ℕ) (tape output : List ℕ) (n words : ℕ)
+pub changed-sheet : (list : List ℕ) (store : PlainStore) → ClubSheet list store → (by : Change) (entry : ℕ) (tape output : List ℕ) (n words : ℕ)
     → outcome (plain clubs) (changing by entry) tape store output .answer ≡ Changed n words
     → ClubSheet (changeList by entry list) (outcome (plain clubs) (changing by entry) tape store output .store)
 changed-sheet = sheets.changed-sheet
 
 -- A delete of the last entry leaves zeros.
-pub last-deleted : (e : ℕ) (store : Store) → ClubSheet (e ∷ []) store → (tape output : List ℕ) (n words : ℕ)
+pub last-deleted : (e : ℕ) (store : PlainStore) → ClubSheet (e ∷ []) store → (tape output : List ℕ) (n words : ℕ)
     → outcome (plain clubs) (delete 0) tape store output .answer ≡ Changed n words
     → outcome (plain clubs) (delete 0) tape store output .store ≡ zeros
 last-deleted = sheets.last-deleted
@@ -182,19 +199,20 @@ pub back-and-there : (counts : List ℕ) → Convertible clubs counts
     → conversion clubs toTree (conversion clubs toNumber counts .counts) ≡ record { answer = Converted (getD counts 0 0); counts = counts }
 back-and-there = conversions.back-and-there clubs clubs-roomy
 
--- A sheet from before F-5 becomes the sheet of the same list with the same shape and slots.
+-- A sheet from before F-5, slots and counts, becomes the slots and the counts of the same list with the same shape, the slots as they were.
 pub laid-converted : (list : List ℕ) (s : Shape) → IsList clubs list → IsShape (length list) s
     → toTreeOrder clubs (layNumbered clubs list s) ≡ layOut clubs list s
 laid-converted = orders.laid-converted clubs clubs-roomy
 
--- Every call on a converted store gives the answer and the output that it gave, and leaves the converted store.
+-- Every call on slots and counts, as they were before F-11, gives on a converted store the answer and the output that it gave, and leaves the
+-- converted store.
 pub calls-converted : (call : Call) (tape : List ℕ) (store : Store) (output : List ℕ)
-    → outcome (plain clubs) call tape (toTreeOrder clubs store) output ≡ converted (toTreeOrder clubs) (outcome (inNumberOrder clubs) call tape store output)
+    → outcome (untallied clubs) call tape (toTreeOrder clubs store) output ≡ converted (toTreeOrder clubs) (outcome (inNumberOrder clubs) call tape store output)
 calls-converted = orders.calls-converted clubs clubs-roomy
 
 -- ---- timed sheets
 
--- For every two timed histories, on stores of three slices that held anything at all before, every store has the same share in both exactly
+-- For every two timed histories, on stores of four slices that held anything at all before, every store has the same share in both exactly
 -- when both end with the same list.
 pub equal-timed-tables : (calls calls′ : List TimedCall) (store store′ : TimedStore) → TimedLengths clubs store → TimedLengths clubs store′
     → SameTable (timedView clubs) (history (timed clubs) calls store) (history (timed clubs) calls′ store′)
@@ -217,7 +235,7 @@ pub timed-positive-shares : (calls : List TimedCall) (store : TimedStore) → Ti
     → (¬ (share (equalTimed v) (history (timed clubs) calls store) ≐ whole 0)) ↔ TimedSheet (listAtEnd (timed clubs) calls) v
 timed-positive-shares calls store right = shares.positive-sheets (timed clubs) clubs-timed calls store (timed-right clubs store right)
 
--- Whatever words the tapes of the calls hold, if no call returns 7, the calls leave the store of three slices with which the course ends
+-- Whatever words the tapes of the calls hold, if no call returns 7, the calls leave the store of four slices with which the course ends
 -- whose faces those words decide; and it is a timed sheet of the list at the end.
 pub timed-words-decide : (sent : List (Sent TimedCall)) (store : TimedStore) → NoneEnds (timed clubs) (clearing (timed clubs) ∷ sent) store → (final : TimedStore)
     → Follows (history (timed clubs) (callsOf sent) store) (facesSent (timed clubs) (clearing (timed clubs) ∷ sent) store) final
@@ -237,7 +255,7 @@ pub timed-coins-supplied : (calls : List TimedCall) (store : TimedStore) → Tim
 timed-coins-supplied calls store right = history-supplied (timed clubs) clubs-timed timed-suppliable calls store (timed-right clubs store right)
 
 -- A check of a timed sheet answers with the length of its list; a check of any other store of the right lengths is refused by cause 2 where
--- slots and counts are no plain sheet, and by cause 11 where they are one.
+-- slots, counts and tallies are no plain sheet, and by cause 11 where they are one.
 pub timed-check-sheet : (list : List ℕ) (store : TimedStore) → TimedSheet list store → (tape output : List ℕ)
     → outcome (timed clubs) timed-calls.check tape store output .answer ≡ Checked (length list)
 timed-check-sheet = timed-sheets.check-sheet
@@ -251,7 +269,7 @@ pub timed-check-untimed : (store : TimedStore) → TimedLengths clubs store → 
 timed-check-untimed = timed-sheets.check-untimed
 
 -- A find of an entry is answered by the list: that it is there, with its rank, or that it is not, with the rank at which it would stand. An
--- entry with the key of the one at a rank is found there, whatever its bit; and a key that is present is that of the entry at its rank.
+-- entry with the key of the one at a rank is found there, whatever its bits; and a key that is present is that of the entry at its rank.
 pub find-sheet : (list : List ℕ) (store : TimedStore) → TimedSheet list store → (e : ℕ) → key e ≢ 0 → (tape output : List ℕ)
     → outcome (timed clubs) (timed-calls.find e) tape store output .answer ≡ foundAt (present (key e) list) (rankOf (key e) list)
 find-sheet = timed-sheets.find-sheet
@@ -270,18 +288,56 @@ pub inserted-sheet : (list : List ℕ) (store : TimedStore) → TimedSheet list 
     → TimedSheet (changeList (Insert (rankOf (key e) list)) e list) (outcome (timed clubs) (timed-calls.insert e) tape store output .store)
 inserted-sheet = timed-sheets.inserted-sheet
 
--- Entries are compared without bit 63; an insert of an entry whose key is there is refused by cause 10, whatever its bit.
-pub key-without-bit : (e : ℕ) → e < 2 ^ 63 → (key e ≡ e) × (key (2 ^ 63 + e) ≡ e)
-key-without-bit = keys.key-without-bit
+-- Entries are compared without the bits 63 and 62: 1 stands for bit 62, 2 for bit 63, 3 for both; an insert of an entry whose key is there is
+-- refused by cause 10, whatever its bits.
+pub key-without-bits : (bits e : ℕ) → e < 2 ^ 62 → key (bits * 2 ^ 62 + e) ≡ e
+key-without-bits = keys.key-without-bits
 
 pub insert-present : (list : List ℕ) (store : TimedStore) → TimedSheet list store → (r : ℕ) → r < length list
     → (e : ℕ) → key e ≡ key (getD list r 0) → (tape output : List ℕ)
     → outcome (timed clubs) (timed-calls.insert e) tape store output .answer ≡ Refused EntryPresent
 insert-present = timed-sheets.insert-present
 
--- ---- places and dead heats
+-- ---- the tallies
 
--- Every rank is in exactly one tied group: a longest run of boats, each but the first tied with the boat before her.
+-- The tallies follow from list and counts: sheets of one list with the same counts have the same tallies.
+pub tallies-follow : (list : List ℕ) (s s′ : Shape) → IsContents clubs list s → IsContents clubs list s′
+    → layPlain clubs list s .sheet .counts ≡ layPlain clubs list s′ .sheet .counts → layPlain clubs list s .slice ≡ layPlain clubs list s′ .slice
+unfolding layOut
+tallies-follow = follow.tallies-follow clubs clubs-roomy
+
+-- By the numbers of the ranges: the tally of a range is the number of scoring boats among the entries that it has by the counts; number 0 and
+-- the numbers that no range has are 0.
+pub tally-entries : (list : List ℕ) (s : Shape) → IsContents clubs list s → (levels k : ℕ) → IsRange (s .size) levels k
+    → getD (rangeTallies (clubs .counts) list s) k 0 ≡ tally (entriesOf list (shapeCounts (clubs .counts) (length list) s) (height (s .size) - levels) k)
+tally-entries = follow.tally-entries clubs clubs-roomy
+
+pub tally-zero : (list : List ℕ) (s : Shape) → IsContents clubs list s → getD (rangeTallies (clubs .counts) list s) 0 0 ≡ 0
+tally-zero = tallies.rangeTallies-zero clubs clubs-roomy
+
+pub tally-unused : (list : List ℕ) (s : Shape) → IsContents clubs list s → (k : ℕ) → 2 * 2 ^ height (s .size) ≤ k
+    → getD (rangeTallies (clubs .counts) list s) k 0 ≡ 0
+tally-unused = tallies.rangeTallies-unused clubs clubs-roomy
+
+-- They stand in the order of the counts: put back into the order of the range numbers, they are these.
+pub tallies-numbered : (list : List ℕ) (s : Shape) → IsContents clubs list s
+    → numberOrder (height (s .size)) (layPlain clubs list s .slice) ≡ rangeTallies (clubs .counts) list s
+tallies-numbered = tallies.numbered-tallies clubs clubs-roomy
+
+-- Where no boat is retired, the tallies are the counts with 0 at number 0.
+pub none-tallies : (list : List ℕ) (s : Shape) → IsContents clubs list s → noneRetired list ≡ true
+    → layPlain clubs list s .slice ≡ 0 ∷ drop 1 (layPlain clubs list s .sheet .counts)
+unfolding layOut
+none-tallies = none-retired-tallies.none-tallies clubs clubs-roomy
+
+-- ---- places, dead heats and retired boats
+
+-- A scoring boat ties with the scoring boat before her exactly when she and every retired boat between them bear bit 63.
+pub ties-exactly : (list : List ℕ) (i : ℕ) → i < length list → retiredBit (getD list i 0) ≡ false
+    → (tiedIn list (tally (take i list)) ≡ true) ↔ TiesBack list i
+ties-exactly = exact.ties-exactly
+
+-- Of N scoring boats, numbered from 0, each is in exactly one tied group: a longest run, each but the first tied with the one before her.
 pub in-group : (tied : ℕ → Bool) (N i : ℕ) → i < N
     → Group tied N (groupFirst tied i) (groupEnd tied N i) × (groupFirst tied i ≤ i) × (i < groupEnd tied N i)
 in-group = groups.in-group
@@ -290,16 +346,35 @@ pub only-group : (tied : ℕ → Bool) (N i first end : ℕ) → Group tied N fi
     → (first ≡ groupFirst tied i) × (end ≡ groupEnd tied N i)
 only-group = groups.only-group
 
--- The sums of all groups add up to 1 + 2 + … + N.
-pub groups-sum : (tied : ℕ → Bool) (N : ℕ) → groupSums tied N ≡ placesSum 1 N
-groups-sum = placings.groups-sum
+-- The sums of all groups add up to 1 + 2 + … + the number of scoring boats.
+pub groups-sum : (list : List ℕ) → groupSums (tiedIn list) (tally list) ≡ placesSum 1 (tally list)
+groups-sum = exact.scoring-sum
 
--- Where no entry bears bit 63, rank i has place i + 1 and as many points, alone.
-pub no-bits : (list : List ℕ) → Every (λ e. e < 2 ^ 63) list → (i : ℕ) → i < length list → placingIn list i ≡ single i
+-- A scoring boat has what her group has among the scoring boats, of which she has the number of those before her.
+pub scoring-placing : (list : List ℕ) (i : ℕ) → retiredBit (getD list i 0) ≡ false
+    → placingIn list i ≡ placingOf (tiedIn list) (tally list) (tally (take i list))
+scoring-placing = placings.scoring-placing
+
+-- Her place is one more than the scoring entries before the first boat of her group, counted in the full list.
+pub place-counted : (list : List ℕ) (i : ℕ) → i < length list → retiredBit (getD list i 0) ≡ false
+    → (f : ℕ) × StartsAt list i f × (placingIn list i .place ≡ 1 + tally (take f list))
+place-counted = exact.place-counted
+
+-- A retired boat has place 0, sum 0 and a group of 1.
+pub retired-placing : (list : List ℕ) (i : ℕ) → retiredBit (getD list i 0) ≡ true → placingIn list i ≡ record { place = 0; sum = 0; boats = 1 }
+retired-placing = placings.retired-placing
+
+-- Where no boat is retired, each has what F-3 gives her: her rank is her number, and she ties by her own bit 63.
+pub none-retired : (list : List ℕ) → noneRetired list ≡ true → (i : ℕ) → i < length list
+    → placingIn list i ≡ placingOf (λ j. tieBit (getD list j 0)) (length list) i
+none-retired = placings.none-retired
+
+-- Where no entry bears bit 63 or bit 62, rank i has place i + 1 and as many points, alone.
+pub no-bits : (list : List ℕ) → Every (λ e. e < 2 ^ 62) list → (i : ℕ) → i < length list → placingIn list i ≡ single i
 no-bits = placings.no-bits
 
--- A place of an entry on a sheet is answered by the list: the first place of her tied group, the sum of its places, the number of its boats.
-pub place-sheet : (list : List ℕ) (store : Store) → ClubSheet list store → (i : ℕ) → i < length list → (tape output : List ℕ)
+-- A place of an entry on a sheet is answered by the list: what her tied group has, or what a retired boat has.
+pub place-sheet : (list : List ℕ) (store : PlainStore) → ClubSheet list store → (i : ℕ) → i < length list → (tape output : List ℕ)
     → outcome (plain clubs) (place i) tape store output .answer ≡ placed (placingIn list i)
 place-sheet = sheets.place-sheet
 
@@ -307,18 +382,23 @@ pub timed-place-sheet : (list : List ℕ) (store : TimedStore) → TimedSheet li
     → outcome (timed clubs) (timed-calls.place i) tape store output .answer ≡ placed (placingIn list i)
 timed-place-sheet = timed-sheets.place-sheet
 
--- Neither layout nor shares look at the bit. Where each entry is replaced by another one, the sheet with this shape has the other entries in
--- the same slots, and the same counts; and the share of a sheet goes by its shape and the number of its entries alone.
+-- Slots, counts and shares do not look at the bits, and the tallies look at bit 62 alone. Where each entry is replaced by another one, the sheet
+-- with this shape has the other entries in the same slots, and the same counts; and the same tallies, where retired boats stay retired and
+-- others do not become so. The share of a sheet goes by its shape and the number of its entries alone.
 pub map-layOut : (f : ℕ → ℕ) → f 0 ≡ 0 → (list : List ℕ) (s : Shape)
-    → layOut clubs (map f list) s ≡ record { slots = map f (layOut clubs list s .slots); counts = layOut clubs list s .counts }
+    → layPlain clubs (map f list) s .sheet ≡ record { slots = map f (layPlain clubs list s .sheet .slots); counts = layPlain clubs list s .sheet .counts }
 map-layOut f none = entries.map-layOut f none clubs
 
-pub shape-shares : (calls calls′ : List Call) (store store′ : Store) → RightLengths clubs store → RightLengths clubs store′
+pub map-tallies : (f : ℕ → ℕ) → ((e : ℕ) → retiredBit (f e) ≡ retiredBit e) → (list : List ℕ) (s : Shape)
+    → layPlain clubs (map f list) s .slice ≡ layPlain clubs list s .slice
+map-tallies f same = replaced.map-layTallies f same (clubs .counts)
+
+pub shape-shares : (calls calls′ : List Call) (store store′ : PlainStore) → PlainLengths clubs store → PlainLengths clubs store′
     → length (listAtEnd (plain clubs) calls) ≡ length (listAtEnd (plain clubs) calls′) → (s : Shape) → IsShape (length (listAtEnd (plain clubs) calls)) s
-    → share (equalStores (layOut clubs (listAtEnd (plain clubs) calls) s)) (history (plain clubs) calls store)
-    ≐ share (equalStores (layOut clubs (listAtEnd (plain clubs) calls′) s)) (history (plain clubs) calls′ store′)
+    → share (equalPlain (layPlain clubs (listAtEnd (plain clubs) calls) s)) (history (plain clubs) calls store)
+    ≐ share (equalPlain (layPlain clubs (listAtEnd (plain clubs) calls′) s)) (history (plain clubs) calls′ store′)
 shape-shares calls calls′ store store′ right right′ =
-    shares.shape-shares (plain clubs) clubs-lawful calls calls′ store store′ (lengths-right clubs store right) (lengths-right clubs store′ right′)
+    shares.shape-shares (plain clubs) clubs-lawful calls calls′ store store′ (plain-right clubs store right) (plain-right clubs store′ right′)
 
 -- ---- the program
 
@@ -341,7 +421,7 @@ words-once = session.words-once
 
 -- A session whose answers have no 07 leaves, whatever the words, the store with which the course ends, of the history of the calls that its
 -- lines ask, whose faces the words decide; and a sheet of the list at the end of this history.
-pub session-words : (lines : List (List ℕ)) → NoneSays07 lines atStart → (final : Store)
+pub session-words : (lines : List (List ℕ)) → NoneSays07 lines atStart → (final : PlainStore)
     → Follows (history (plain clubs) (callsIn lines) zeros) (facesSent (plain clubs) (clearing (plain clubs) ∷ sentOver lines atStart) zeros) final
     ↔ (final ≡ keptAfter lines atStart .store)
 session-words = session-history.session-words

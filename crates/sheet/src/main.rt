@@ -3,7 +3,7 @@ ghost use mathlib.Core.Path.{_≡_};
 ghost use mathlib.Core.Bool.{false};
 ghost use Prim.Native.Nat.{_<_, _≤_};
 ghost use lib.ListN.{length, take};
-ghost use Rattle.call_outcomes.specs.Plain.{storeOf};
+ghost use Rattle.call_outcomes.specs.Plain.{plainStoreOf};
 ghost use Rattle.frame_answers.specs.Gives.{keptOf};
 ghost use Rattle.frame_chunks.specs.Chunk.{standing, end, chunkOutcome};
 ghost use Rattle.sheet.specs.Within.{Within};
@@ -13,6 +13,9 @@ const SLOTS: usize = 4224;
 
 // The counts of the store.
 const COUNTS: usize = 256;
+
+// The tallies of the store.
+const TALLIES: usize = 256;
 
 // The words of the tape that may wait.
 const TAPE: usize = 1024;
@@ -53,6 +56,7 @@ fn answer_chunk(
     line: &mut [u8; LINE],
     slots: &mut [u64; SLOTS],
     counts: &mut [u16; COUNTS],
+    tallies: &mut [u16; TALLIES],
     tape: &mut [u32; TAPE],
     output: &mut [u8; OUTPUT],
     before: State,
@@ -60,9 +64,9 @@ fn answer_chunk(
     requires chunk { ⌜ n ≤ length (now input) ⌝ }
     requires held { ⌜ Within before ⌝ }
     ensures { λ r. ⌜ Within r × (r .failed ≡ false
-        → end (now (line .exit)) (r .have) (keptOf (storeOf (now (slots .exit)) (now (counts .exit))) (now (tape .exit)) (r .waiting))
+        → end (now (line .exit)) (r .have) (keptOf (plainStoreOf (now (slots .exit)) (now (counts .exit)) (now (tallies .exit))) (now (tape .exit)) (r .waiting))
         ≡ chunkOutcome (take n (now (input .entry)))
-        (standing 0 (now (line .entry)) (before .have) (keptOf (storeOf (now (slots .entry)) (now (counts .entry))) (now (tape .entry)) (before .waiting))) .end) ⌝ }
+        (standing 0 (now (line .entry)) (before .have) (keptOf (plainStoreOf (now (slots .entry)) (now (counts .entry)) (now (tallies .entry))) (now (tape .entry)) (before .waiting))) .end) ⌝ }
 {
     let chunk = &input[..n];
     let mut have = before.have;
@@ -76,6 +80,7 @@ fn answer_chunk(
             have,
             slots,
             counts,
+            tallies,
             tape,
             waiting,
             output,
@@ -140,6 +145,7 @@ fn turns_left(turns: u64, last: bool, failed: bool) -> u64
 fn run(
     slots: &mut [u64; SLOTS],
     counts: &mut [u16; COUNTS],
+    tallies: &mut [u16; TALLIES],
     tape: &mut [u32; TAPE],
     line: &mut [u8; LINE],
     input: &mut [u8; INPUT],
@@ -153,7 +159,17 @@ fn run(
     let mut turns = u64::MAX;
     while 0 < turns {
         let chunk = read_chunk(input, state.have);
-        state = answer_chunk(input, chunk.bytes, line, slots, counts, tape, output, state);
+        state = answer_chunk(
+            input,
+            chunk.bytes,
+            line,
+            slots,
+            counts,
+            tallies,
+            tape,
+            output,
+            state,
+        );
         turns = turns_left(turns, chunk.last, state.failed);
     }
 }
@@ -162,6 +178,7 @@ fn run(
 fn main() {
     let mut slots = [0u64; SLOTS];
     let mut counts = [0u16; COUNTS];
+    let mut tallies = [0u16; TALLIES];
     let mut tape = [0u32; TAPE];
     let mut line = [0u8; LINE];
     let mut input = [0u8; INPUT];
@@ -169,6 +186,7 @@ fn main() {
     run(
         &mut slots,
         &mut counts,
+        &mut tallies,
         &mut tape,
         &mut line,
         &mut input,

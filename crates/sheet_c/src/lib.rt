@@ -3,8 +3,8 @@ ghost use mathlib.Core.Path.{_≡_};
 ghost use mathlib.Core.List.{[]};
 ghost use lib.ListN.{length};
 ghost use Rattle.call_outcomes.specs.Kind.{clear};
-ghost use Rattle.call_outcomes.specs.Plain as call;
-ghost use Rattle.call_outcomes.specs.Plain.{plain, storeOf};
+ghost use Rattle.call_outcomes.specs.PlainCalls as call;
+ghost use Rattle.call_outcomes.specs.Plain.{plain, plainStoreOf};
 ghost use Rattle.call_outcomes.specs.Clubs.{clubs};
 ghost use Rattle.call_handed.specs.Handed.{handed};
 ghost use Rattle.call_orders.specs.Conversion.{toTree, toNumber};
@@ -13,33 +13,43 @@ use tree_rules::Change;
 
 // Makes any contents the empty sheet.
 #[no_mangle]
-pub extern "C" fn sheet_clear(slots: &mut [u64], counts: &mut [u16], answer: &mut [u64]) -> usize
-    ensures { λ r. ⌜ record { number = r; store = storeOf (now (slots .exit)) (now (counts .exit)); output = []; answer = now (answer .exit) }
-        ≡ handed (plain clubs) 2 clear [] (storeOf (now (slots .entry)) (now (counts .entry))) [] (now (answer .entry)) ⌝ }
+pub extern "C" fn sheet_clear(
+    slots: &mut [u64],
+    counts: &mut [u16],
+    tallies: &mut [u16],
+    answer: &mut [u64],
+) -> usize
+    ensures { λ r. ⌜ record { number = r; store = plainStoreOf (now (slots .exit)) (now (counts .exit)) (now (tallies .exit)); output = []; answer = now (answer .exit) }
+        ≡ handed (plain clubs) 2 clear [] (plainStoreOf (now (slots .entry)) (now (counts .entry)) (now (tallies .entry))) [] (now (answer .entry)) ⌝ }
 {
     if answer.len() < 2 {
         return 255;
     }
-    call_handed::hand(sheet_calls::clear(slots, counts).returned(), 2, answer)
+    call_handed::hand(
+        sheet_calls::clear(slots, counts, tallies).returned(),
+        2,
+        answer,
+    )
 }
 
 // Makes the change of the list, with the entry of an insert.
 fn hand_change(
     slots: &mut [u64],
     counts: &mut [u16],
+    tallies: &mut [u16],
     change: Change,
     entry: u64,
     tape: &[u32],
     answer: &mut [u64],
 ) -> usize
-    ensures { λ r. ⌜ record { number = r; store = storeOf (now (slots .exit)) (now (counts .exit)); output = []; answer = now (answer .exit) }
-        ≡ handed (plain clubs) 2 (call.changing change entry) (now (tape .entry)) (storeOf (now (slots .entry)) (now (counts .entry))) [] (now (answer .entry)) ⌝ }
+    ensures { λ r. ⌜ record { number = r; store = plainStoreOf (now (slots .exit)) (now (counts .exit)) (now (tallies .exit)); output = []; answer = now (answer .exit) }
+        ≡ handed (plain clubs) 2 (call.changing change entry) (now (tape .entry)) (plainStoreOf (now (slots .entry)) (now (counts .entry)) (now (tallies .entry))) [] (now (answer .entry)) ⌝ }
 {
     if answer.len() < 2 {
         return 255;
     }
     call_handed::hand(
-        sheet_calls::make_change(slots, counts, change, entry, tape).returned(),
+        sheet_calls::make_change(slots, counts, tallies, change, entry, tape).returned(),
         2,
         answer,
     )
@@ -50,15 +60,17 @@ fn hand_change(
 pub extern "C" fn sheet_insert(
     slots: &mut [u64],
     counts: &mut [u16],
+    tallies: &mut [u16],
     rank: usize,
     entry: u64,
     tape: &[u32],
     answer: &mut [u64],
 ) -> usize
-    ensures { λ r. ⌜ record { number = r; store = storeOf (now (slots .exit)) (now (counts .exit)); output = []; answer = now (answer .exit) }
-        ≡ handed (plain clubs) 2 (call.insert rank entry) (now (tape .entry)) (storeOf (now (slots .entry)) (now (counts .entry))) [] (now (answer .entry)) ⌝ }
+    ensures { λ r. ⌜ record { number = r; store = plainStoreOf (now (slots .exit)) (now (counts .exit)) (now (tallies .exit)); output = []; answer = now (answer .exit) }
+        ≡ handed (plain clubs) 2 (call.insert rank entry) (now (tape .entry)) (plainStoreOf (now (slots .entry)) (now (counts .entry)) (now (tallies .entry))) [] (now (answer .entry)) ⌝ }
 {
-    hand_change(slots, counts, Change::Insert(rank), entry, tape, answer)
+    let change = Change::Insert(rank);
+    hand_change(slots, counts, tallies, change, entry, tape, answer)
 }
 
 // Takes the entry at the rank out.
@@ -66,14 +78,16 @@ pub extern "C" fn sheet_insert(
 pub extern "C" fn sheet_delete(
     slots: &mut [u64],
     counts: &mut [u16],
+    tallies: &mut [u16],
     rank: usize,
     tape: &[u32],
     answer: &mut [u64],
 ) -> usize
-    ensures { λ r. ⌜ record { number = r; store = storeOf (now (slots .exit)) (now (counts .exit)); output = []; answer = now (answer .exit) }
-        ≡ handed (plain clubs) 2 (call.delete rank) (now (tape .entry)) (storeOf (now (slots .entry)) (now (counts .entry))) [] (now (answer .entry)) ⌝ }
+    ensures { λ r. ⌜ record { number = r; store = plainStoreOf (now (slots .exit)) (now (counts .exit)) (now (tallies .exit)); output = []; answer = now (answer .exit) }
+        ≡ handed (plain clubs) 2 (call.delete rank) (now (tape .entry)) (plainStoreOf (now (slots .entry)) (now (counts .entry)) (now (tallies .entry))) [] (now (answer .entry)) ⌝ }
 {
-    hand_change(slots, counts, Change::Delete(rank), 0, tape, answer)
+    let change = Change::Delete(rank);
+    hand_change(slots, counts, tallies, change, 0, tape, answer)
 }
 
 // Copies the entries of ranks first to last to the front of the output.
@@ -81,40 +95,42 @@ pub extern "C" fn sheet_delete(
 pub extern "C" fn sheet_read(
     slots: &[u64],
     counts: &[u16],
+    tallies: &[u16],
     first: usize,
     last: usize,
     output: &mut [u64],
     answer: &mut [u64],
 ) -> usize
-    ensures { λ r. ⌜ record { number = r; store = storeOf (now (slots .entry)) (now (counts .entry)); output = now (output .exit); answer = now (answer .exit) }
-        ≡ handed (plain clubs) 2 (call.read first last (length (now (output .entry)))) [] (storeOf (now (slots .entry)) (now (counts .entry))) (now (output .entry)) (now (answer .entry)) ⌝ }
+    ensures { λ r. ⌜ record { number = r; store = plainStoreOf (now (slots .entry)) (now (counts .entry)) (now (tallies .entry)); output = now (output .exit); answer = now (answer .exit) }
+        ≡ handed (plain clubs) 2 (call.read first last (length (now (output .entry)))) [] (plainStoreOf (now (slots .entry)) (now (counts .entry)) (now (tallies .entry))) (now (output .entry)) (now (answer .entry)) ⌝ }
 {
     if answer.len() < 2 {
         return 255;
     }
     call_handed::hand(
-        sheet_calls::read(slots, counts, first, last, output).returned(),
+        sheet_calls::read(slots, counts, tallies, first, last, output).returned(),
         2,
         answer,
     )
 }
 
-// The place of the entry at the rank, the sum of the places of her tied group, and the number of its boats.
+// The place of the entry at the rank, the sum of the places of her tied group, and the number of its boats; 0, 0 and 1 for a retired boat.
 #[no_mangle]
 pub extern "C" fn sheet_place(
     slots: &[u64],
     counts: &[u16],
+    tallies: &[u16],
     rank: usize,
     answer: &mut [u64],
 ) -> usize
-    ensures { λ r. ⌜ record { number = r; store = storeOf (now (slots .entry)) (now (counts .entry)); output = []; answer = now (answer .exit) }
-        ≡ handed (plain clubs) 3 (call.place rank) [] (storeOf (now (slots .entry)) (now (counts .entry))) [] (now (answer .entry)) ⌝ }
+    ensures { λ r. ⌜ record { number = r; store = plainStoreOf (now (slots .entry)) (now (counts .entry)) (now (tallies .entry)); output = []; answer = now (answer .exit) }
+        ≡ handed (plain clubs) 3 (call.place rank) [] (plainStoreOf (now (slots .entry)) (now (counts .entry)) (now (tallies .entry))) [] (now (answer .entry)) ⌝ }
 {
     if answer.len() < 3 {
         return 255;
     }
     call_handed::hand(
-        sheet_calls::place(slots, counts, rank).returned(),
+        sheet_calls::place(slots, counts, tallies, rank).returned(),
         3,
         answer,
     )
@@ -122,14 +138,23 @@ pub extern "C" fn sheet_place(
 
 // The number of entries of a sheet.
 #[no_mangle]
-pub extern "C" fn sheet_check(slots: &[u64], counts: &[u16], answer: &mut [u64]) -> usize
-    ensures { λ r. ⌜ record { number = r; store = storeOf (now (slots .entry)) (now (counts .entry)); output = []; answer = now (answer .exit) }
-        ≡ handed (plain clubs) 2 call.check [] (storeOf (now (slots .entry)) (now (counts .entry))) [] (now (answer .entry)) ⌝ }
+pub extern "C" fn sheet_check(
+    slots: &[u64],
+    counts: &[u16],
+    tallies: &[u16],
+    answer: &mut [u64],
+) -> usize
+    ensures { λ r. ⌜ record { number = r; store = plainStoreOf (now (slots .entry)) (now (counts .entry)) (now (tallies .entry)); output = []; answer = now (answer .exit) }
+        ≡ handed (plain clubs) 2 call.check [] (plainStoreOf (now (slots .entry)) (now (counts .entry)) (now (tallies .entry))) [] (now (answer .entry)) ⌝ }
 {
     if answer.len() < 2 {
         return 255;
     }
-    call_handed::hand(sheet_calls::check(slots, counts).returned(), 2, answer)
+    call_handed::hand(
+        sheet_calls::check(slots, counts, tallies).returned(),
+        2,
+        answer,
+    )
 }
 
 // Counts in the order of the range numbers, put into the tree order.

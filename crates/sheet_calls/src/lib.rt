@@ -1,11 +1,11 @@
-// The clubs' packed finishing sheet: six calls on a store of two lent slices.
+// The clubs' packed finishing sheet: six calls on a store of three lent slices.
 ghost use mathlib.Core.Path.{_≡_};
 ghost use mathlib.Core.List.{[]};
 ghost use lib.ListN.{length};
 ghost use Rattle.call_outcomes.specs.Kind.{clear};
 ghost use Rattle.call_outcomes.specs.Outcome.{outcome};
-ghost use Rattle.call_outcomes.specs.Plain as call;
-ghost use Rattle.call_outcomes.specs.Plain.{plain, storeOf, outcomeOf};
+ghost use Rattle.call_outcomes.specs.PlainCalls as call;
+ghost use Rattle.call_outcomes.specs.Plain.{plain, plainStoreOf, plainOutcomeOf};
 ghost use Rattle.call_outcomes.specs.Clubs.{clubs};
 use call_open::Opened;
 use call_outcomes::Answer;
@@ -13,9 +13,9 @@ use call_outcomes::Cause;
 use tree_rules::Change;
 
 // Makes any contents the empty sheet.
-pub fn clear(slots: &mut [u64], counts: &mut [u16]) -> Answer
-    ensures { λ r. ⌜ outcomeOf r (now (slots .exit)) (now (counts .exit)) []
-        ≡ outcome (plain clubs) clear [] (storeOf (now (slots .entry)) (now (counts .entry))) [] ⌝ }
+pub fn clear(slots: &mut [u64], counts: &mut [u16], tallies: &mut [u16]) -> Answer
+    ensures { λ r. ⌜ plainOutcomeOf r (now (slots .exit)) (now (counts .exit)) (now (tallies .exit)) []
+        ≡ outcome (plain clubs) clear [] (plainStoreOf (now (slots .entry)) (now (counts .entry)) (now (tallies .entry))) [] ⌝ }
 {
     if slots.len() != 4224 {
         return Answer::Refused(Cause::Lengths);
@@ -23,8 +23,12 @@ pub fn clear(slots: &mut [u64], counts: &mut [u16]) -> Answer
     if counts.len() != 256 {
         return Answer::Refused(Cause::Lengths);
     }
+    if tallies.len() != 256 {
+        return Answer::Refused(Cause::Lengths);
+    }
     store_slices::zero_slots(slots, 0, 4224);
     store_counts::zero_counts(counts);
+    store_counts::zero_counts(tallies);
     Answer::Cleared
 }
 
@@ -32,18 +36,29 @@ pub fn clear(slots: &mut [u64], counts: &mut [u16]) -> Answer
 pub fn make_change(
     slots: &mut [u64],
     counts: &mut [u16],
+    tallies: &mut [u16],
     change: Change,
     entry: u64,
     tape: &[u32],
 ) -> Answer
-    ensures { λ r. ⌜ outcomeOf r (now (slots .exit)) (now (counts .exit)) []
-        ≡ outcome (plain clubs) (call.changing change entry) (now (tape .entry)) (storeOf (now (slots .entry)) (now (counts .entry))) [] ⌝ }
+    ensures { λ r. ⌜ plainOutcomeOf r (now (slots .exit)) (now (counts .exit)) (now (tallies .exit)) []
+        ≡ outcome (plain clubs) (call.changing change entry) (now (tape .entry)) (plainStoreOf (now (slots .entry)) (now (counts .entry)) (now (tallies .entry))) [] ⌝ }
 {
     let mut work = [0u32; 256];
-    let opened = sheet_open::examine(slots, counts, &mut work);
+    let opened = sheet_open::examine(slots, counts, tallies, &mut work);
     match call_open::admit_change(opened, 1024, change, entry) {
         Opened::Sheet { n, m } => {
-            sheet_change::make(slots, counts, &mut work, n, m, change, entry, tape).answer()
+            sheet_change::make(
+                slots,
+                counts,
+                tallies,
+                &mut work,
+                n,
+                m,
+                change,
+                entry,
+                tape,
+            ).answer()
         }
         Opened::Refused(cause) => Answer::Refused(cause),
     }
@@ -53,50 +68,65 @@ pub fn make_change(
 pub fn insert(
     slots: &mut [u64],
     counts: &mut [u16],
+    tallies: &mut [u16],
     rank: usize,
     entry: u64,
     tape: &[u32],
 ) -> Answer
-    ensures { λ r. ⌜ outcomeOf r (now (slots .exit)) (now (counts .exit)) []
-        ≡ outcome (plain clubs) (call.insert rank entry) (now (tape .entry)) (storeOf (now (slots .entry)) (now (counts .entry))) [] ⌝ }
+    ensures { λ r. ⌜ plainOutcomeOf r (now (slots .exit)) (now (counts .exit)) (now (tallies .exit)) []
+        ≡ outcome (plain clubs) (call.insert rank entry) (now (tape .entry)) (plainStoreOf (now (slots .entry)) (now (counts .entry)) (now (tallies .entry))) [] ⌝ }
 {
-    make_change(slots, counts, Change::Insert(rank), entry, tape)
+    make_change(slots, counts, tallies, Change::Insert(rank), entry, tape)
 }
 
 // Takes the entry at the rank out.
-pub fn delete(slots: &mut [u64], counts: &mut [u16], rank: usize, tape: &[u32]) -> Answer
-    ensures { λ r. ⌜ outcomeOf r (now (slots .exit)) (now (counts .exit)) []
-        ≡ outcome (plain clubs) (call.delete rank) (now (tape .entry)) (storeOf (now (slots .entry)) (now (counts .entry))) [] ⌝ }
+pub fn delete(
+    slots: &mut [u64],
+    counts: &mut [u16],
+    tallies: &mut [u16],
+    rank: usize,
+    tape: &[u32],
+) -> Answer
+    ensures { λ r. ⌜ plainOutcomeOf r (now (slots .exit)) (now (counts .exit)) (now (tallies .exit)) []
+        ≡ outcome (plain clubs) (call.delete rank) (now (tape .entry)) (plainStoreOf (now (slots .entry)) (now (counts .entry)) (now (tallies .entry))) [] ⌝ }
 {
-    make_change(slots, counts, Change::Delete(rank), 0, tape)
+    make_change(slots, counts, tallies, Change::Delete(rank), 0, tape)
 }
 
 // Copies the entries of ranks first to last to the front of the output.
-pub fn read(slots: &[u64], counts: &[u16], first: usize, last: usize, output: &mut [u64]) -> Answer
-    ensures { λ r. ⌜ outcomeOf r (now (slots .entry)) (now (counts .entry)) (now (output .exit))
-        ≡ outcome (plain clubs) (call.read first last (length (now (output .entry)))) [] (storeOf (now (slots .entry)) (now (counts .entry))) (now (output .entry)) ⌝ }
+pub fn read(
+    slots: &[u64],
+    counts: &[u16],
+    tallies: &[u16],
+    first: usize,
+    last: usize,
+    output: &mut [u64],
+) -> Answer
+    ensures { λ r. ⌜ plainOutcomeOf r (now (slots .entry)) (now (counts .entry)) (now (tallies .entry)) (now (output .exit))
+        ≡ outcome (plain clubs) (call.read first last (length (now (output .entry)))) [] (plainStoreOf (now (slots .entry)) (now (counts .entry)) (now (tallies .entry))) (now (output .entry)) ⌝ }
 {
     let mut work = [0u32; 256];
-    let opened = sheet_open::examine(slots, counts, &mut work);
+    let opened = sheet_open::examine(slots, counts, tallies, &mut work);
     call_questions::read(opened, slots, &work, first, last, output)
 }
 
-// The place of the entry at the rank: that of her tied group, the sum of its places and the number of its boats.
-pub fn place(slots: &[u64], counts: &[u16], rank: usize) -> Answer
-    ensures { λ r. ⌜ outcomeOf r (now (slots .entry)) (now (counts .entry)) []
-        ≡ outcome (plain clubs) (call.place rank) [] (storeOf (now (slots .entry)) (now (counts .entry))) [] ⌝ }
+// The place of the entry at the rank: that of her tied group, the sum of its places and the number of its boats; a retired boat has none.
+pub fn place(slots: &[u64], counts: &[u16], tallies: &[u16], rank: usize) -> Answer
+    ensures { λ r. ⌜ plainOutcomeOf r (now (slots .entry)) (now (counts .entry)) (now (tallies .entry)) []
+        ≡ outcome (plain clubs) (call.place rank) [] (plainStoreOf (now (slots .entry)) (now (counts .entry)) (now (tallies .entry))) [] ⌝ }
 {
     let mut work = [0u32; 256];
-    let opened = sheet_open::examine(slots, counts, &mut work);
-    call_questions::place(opened, slots, &work, rank)
+    let opened = sheet_open::examine(slots, counts, tallies, &mut work);
+    let mut numbers = [0u32; 256];
+    call_questions::place(opened, slots, &work, tallies, &mut numbers, rank)
 }
 
 // The number of entries of a sheet.
-pub fn check(slots: &[u64], counts: &[u16]) -> Answer
-    ensures { λ r. ⌜ outcomeOf r (now (slots .entry)) (now (counts .entry)) []
-        ≡ outcome (plain clubs) call.check [] (storeOf (now (slots .entry)) (now (counts .entry))) [] ⌝ }
+pub fn check(slots: &[u64], counts: &[u16], tallies: &[u16]) -> Answer
+    ensures { λ r. ⌜ plainOutcomeOf r (now (slots .entry)) (now (counts .entry)) (now (tallies .entry)) []
+        ≡ outcome (plain clubs) call.check [] (plainStoreOf (now (slots .entry)) (now (counts .entry)) (now (tallies .entry))) [] ⌝ }
 {
     let mut work = [0u32; 256];
-    let opened = sheet_open::examine(slots, counts, &mut work);
+    let opened = sheet_open::examine(slots, counts, tallies, &mut work);
     call_questions::check(opened)
 }

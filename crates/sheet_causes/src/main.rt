@@ -4,7 +4,7 @@ use call_outcomes::Answer;
 // The slots of the store.
 const SLOTS: usize = 4224;
 
-// The counts of the store.
+// The counts of the store, and its tallies.
 const COUNTS: usize = 256;
 
 // Prints a line: the name of a call, the number and the two values that it returned.
@@ -20,66 +20,110 @@ fn show(name: &[u8], answer: Answer) {
     io::write_all(1, b"\n");
 }
 
-fn clear(slots: &mut [u64], counts: &mut [u16; COUNTS]) {
-    show(b"clear", sheet_calls::clear(slots, counts));
+fn clear(slots: &mut [u64], counts: &mut [u16; COUNTS], tallies: &mut [u16]) {
+    show(b"clear", sheet_calls::clear(slots, counts, tallies));
 }
 
 fn insert(
     slots: &mut [u64; SLOTS],
     counts: &mut [u16; COUNTS],
+    tallies: &mut [u16; COUNTS],
     rank: usize,
     entry: u64,
     tape: &[u32],
 ) {
     show(
         b"insert",
-        sheet_calls::insert(slots, counts, rank, entry, tape),
+        sheet_calls::insert(slots, counts, tallies, rank, entry, tape),
     );
 }
 
-fn delete(slots: &mut [u64; SLOTS], counts: &mut [u16; COUNTS], rank: usize, tape: &[u32]) {
-    show(b"delete", sheet_calls::delete(slots, counts, rank, tape));
+fn delete(
+    slots: &mut [u64; SLOTS],
+    counts: &mut [u16; COUNTS],
+    tallies: &mut [u16; COUNTS],
+    rank: usize,
+    tape: &[u32],
+) {
+    show(
+        b"delete",
+        sheet_calls::delete(slots, counts, tallies, rank, tape),
+    );
 }
 
-fn read(slots: &[u64; SLOTS], counts: &[u16; COUNTS], last: usize, output: &mut [u64]) {
-    show(b"read", sheet_calls::read(slots, counts, 0, last, output));
+fn read(
+    slots: &[u64; SLOTS],
+    counts: &[u16; COUNTS],
+    tallies: &[u16; COUNTS],
+    last: usize,
+    output: &mut [u64],
+) {
+    show(
+        b"read",
+        sheet_calls::read(slots, counts, tallies, 0, last, output),
+    );
 }
 
-fn place(slots: &[u64; SLOTS], counts: &[u16; COUNTS], rank: usize) {
-    show(b"place", sheet_calls::place(slots, counts, rank));
+fn place(slots: &[u64; SLOTS], counts: &[u16; COUNTS], tallies: &[u16; COUNTS], rank: usize) {
+    show(b"place", sheet_calls::place(slots, counts, tallies, rank));
 }
 
-fn check(slots: &[u64; SLOTS], counts: &[u16; COUNTS]) {
-    show(b"check", sheet_calls::check(slots, counts));
+fn check(slots: &[u64; SLOTS], counts: &[u16; COUNTS], tallies: &[u16; COUNTS]) {
+    show(b"check", sheet_calls::check(slots, counts, tallies));
 }
 
-// A store that is too short (cause 1).
-fn lengths(counts: &mut [u16; COUNTS]) {
-    let mut short = [7u64; 2];
-    clear(&mut short, counts);
+// Slots that are too few, and tallies that are too few (cause 1).
+fn lengths(slots: &mut [u64; SLOTS], counts: &mut [u16; COUNTS], tallies: &mut [u16; COUNTS]) {
+    let mut few_slots = [7u64; 2];
+    let mut few_tallies = [7u16; 2];
+    clear(&mut few_slots, counts, tallies);
+    clear(slots, counts, &mut few_tallies);
 }
 
 // On a store that is no sheet only clear is accepted (cause 2).
-fn start(slots: &mut [u64; SLOTS], counts: &mut [u16; COUNTS], tape: &[u32]) {
-    check(slots, counts);
-    insert(slots, counts, 0, 7, tape);
-    clear(slots, counts);
-    check(slots, counts);
+fn start(
+    slots: &mut [u64; SLOTS],
+    counts: &mut [u16; COUNTS],
+    tallies: &mut [u16; COUNTS],
+    tape: &[u32],
+) {
+    check(slots, counts, tallies);
+    insert(slots, counts, tallies, 0, 7, tape);
+    clear(slots, counts, tallies);
+    check(slots, counts, tallies);
 }
 
 // Entry 0 (cause 3), which decides before the rank, and ranks that are too high (cause 4).
-fn ranks(slots: &mut [u64; SLOTS], counts: &mut [u16; COUNTS], tape: &[u32]) {
-    insert(slots, counts, 9, 0, tape);
-    insert(slots, counts, 9, 7, tape);
-    delete(slots, counts, 0, tape);
+fn ranks(
+    slots: &mut [u64; SLOTS],
+    counts: &mut [u16; COUNTS],
+    tallies: &mut [u16; COUNTS],
+    tape: &[u32],
+) {
+    insert(slots, counts, tallies, 9, 0, tape);
+    insert(slots, counts, tallies, 9, 7, tape);
+    delete(slots, counts, tallies, 0, tape);
 }
 
 // The first entry needs no word; the second does (cause 7).
-fn words(slots: &mut [u64; SLOTS], counts: &mut [u16; COUNTS], tape: &[u32]) {
+fn words(
+    slots: &mut [u64; SLOTS],
+    counts: &mut [u16; COUNTS],
+    tallies: &mut [u16; COUNTS],
+    tape: &[u32],
+) {
     let no_tape = [0u32; 0];
-    insert(slots, counts, 0, 7, &no_tape);
-    insert(slots, counts, 1, 8, &no_tape);
-    insert(slots, counts, 1, 8, tape);
+    insert(slots, counts, tallies, 0, 7, &no_tape);
+    insert(slots, counts, tallies, 1, 8, &no_tape);
+    insert(slots, counts, tallies, 1, 8, tape);
+}
+
+// Of two boats that score a tally of one is wrong (cause 2).
+fn tally(slots: &[u64; SLOTS], counts: &[u16; COUNTS], tallies: &mut [u16; COUNTS]) {
+    tallies[1] = 1;
+    check(slots, counts, tallies);
+    tallies[1] = 2;
+    check(slots, counts, tallies);
 }
 
 // Prints a line of two entries.
@@ -91,48 +135,65 @@ fn show_entries(first: u64, second: u64) {
 }
 
 // Places, and reading two entries, past the end (cause 4), and into an output that is too short (cause 6).
-fn questions(slots: &[u64; SLOTS], counts: &[u16; COUNTS]) {
+fn questions(slots: &[u64; SLOTS], counts: &[u16; COUNTS], tallies: &[u16; COUNTS]) {
     let mut output = [0u64; 2];
     let mut short = [0u64; 1];
-    place(slots, counts, 1);
-    place(slots, counts, 2);
-    read(slots, counts, 1, &mut output);
+    place(slots, counts, tallies, 1);
+    place(slots, counts, tallies, 2);
+    read(slots, counts, tallies, 1, &mut output);
     show_entries(output[0], output[1]);
-    read(slots, counts, 2, &mut output);
-    read(slots, counts, 1, &mut short);
+    read(slots, counts, tallies, 2, &mut output);
+    read(slots, counts, tallies, 1, &mut short);
 }
 
 // Inserts entries at the front until 1,024 stand.
-fn fill(slots: &mut [u64; SLOTS], counts: &mut [u16; COUNTS], tape: &[u32]) {
+fn fill(
+    slots: &mut [u64; SLOTS],
+    counts: &mut [u16; COUNTS],
+    tallies: &mut [u16; COUNTS],
+    tape: &[u32],
+) {
     let mut entry = 3u64;
     while entry <= 1024 {
-        sheet_calls::insert(slots, counts, 0, entry, tape);
+        sheet_calls::insert(slots, counts, tallies, 0, entry, tape);
         entry += 1;
     }
 }
 
 // A full sheet takes no entry (cause 5).
-fn full(slots: &mut [u64; SLOTS], counts: &mut [u16; COUNTS], tape: &[u32]) {
-    fill(slots, counts, tape);
-    check(slots, counts);
-    insert(slots, counts, 0, 9, tape);
-    delete(slots, counts, 512, tape);
-    check(slots, counts);
+fn full(
+    slots: &mut [u64; SLOTS],
+    counts: &mut [u16; COUNTS],
+    tallies: &mut [u16; COUNTS],
+    tape: &[u32],
+) {
+    fill(slots, counts, tallies, tape);
+    check(slots, counts, tallies);
+    insert(slots, counts, tallies, 0, 9, tape);
+    delete(slots, counts, tallies, 512, tape);
+    check(slots, counts, tallies);
 }
 
 // The calls, one after the other, on one store.
-fn calls(slots: &mut [u64; SLOTS], counts: &mut [u16; COUNTS], tape: &[u32]) {
-    lengths(counts);
-    start(slots, counts, tape);
-    ranks(slots, counts, tape);
-    words(slots, counts, tape);
-    questions(slots, counts);
-    full(slots, counts, tape);
+fn calls(
+    slots: &mut [u64; SLOTS],
+    counts: &mut [u16; COUNTS],
+    tallies: &mut [u16; COUNTS],
+    tape: &[u32],
+) {
+    lengths(slots, counts, tallies);
+    start(slots, counts, tallies, tape);
+    ranks(slots, counts, tallies, tape);
+    words(slots, counts, tallies, tape);
+    tally(slots, counts, tallies);
+    questions(slots, counts, tallies);
+    full(slots, counts, tallies, tape);
 }
 
 fn main() {
     let mut slots = [7u64; SLOTS];
     let mut counts = [7u16; COUNTS];
+    let mut tallies = [7u16; COUNTS];
     let tape = [0u32; 2048];
-    calls(&mut slots, &mut counts, &tape);
+    calls(&mut slots, &mut counts, &mut tallies, &tape);
 }

@@ -1,2 +1,4 @@
--- What became of a change.
+-- A change of a plain sheet: definitions first, then the laws.
 pub mod Made
+pub mod PlainReady
+pub mod TallyLaws

@@ -1,17 +1,24 @@
 // A change of the clubs' sheet that no cause before 7 refuses, carried out.
 ghost use mathlib.Core.Path.{_≡_};
+ghost use mathlib.Core.Bool.{_&&_, not};
 ghost use mathlib.Core.List.{[]};
 ghost use Prim.Native.Nat.{_<_, _≤_};
+ghost use lib.Dec.{eqb};
 ghost use lib.ListN.{length, getD};
+ghost use Rattle.store_scoring.specs.Scoring.{retiredBit};
 ghost use Rattle.call_outcomes.specs.Outcome.{outcome};
-ghost use Rattle.call_outcomes.specs.Plain.{plain, changing, storeOf, outcomeOf};
+ghost use Rattle.call_outcomes.specs.PlainCalls.{changing};
+ghost use Rattle.call_outcomes.specs.Untallied.{storeOf};
+ghost use Rattle.call_outcomes.specs.Plain.{plain, plainStoreOf, plainOutcomeOf};
 ghost use Rattle.call_outcomes.specs.Clubs.{clubs};
+ghost use Rattle.call_change.specs.SheetChange.{entriesBefore, WriteReady, written};
 ghost use Rattle.sheet_change.specs.Made.{answerTo};
-ghost use Rattle.call_change.specs.SheetChange.{ChangeReady, entriesBefore, WriteReady, written};
+ghost use Rattle.sheet_change.specs.PlainReady.{PlainReady};
 use call_change::DrawnChange;
 use call_outcomes::Answer;
 use call_outcomes::Cause;
 use tree_rules::Change;
+use tree_sizes::Size;
 use tree_walk::Updated;
 
 // What became of a change: it is made, and leaves so many entries after so many words read; or the tape ended, and nothing is written.
@@ -58,11 +65,23 @@ fn write_drawn(slots: &mut [u64], counts: &mut [u16], work: &[u32], drawn: Drawn
     }
 }
 
+// No boat on the sheet of n entries with these tallies is retired, and none comes in: number 1 is the tally of the whole sheet.
+fn all_score(tallies: &[u16], n: usize, entry: u64) -> bool
+    requires { ⌜ 1 < length (now tallies) ⌝ }
+    ensures { λ r. ⌜ r ≡ (eqb (getD (now (tallies .entry)) 1 0) n && not (retiredBit entry)) ⌝ }
+{
+    if tallies[1] as usize != n {
+        return false;
+    }
+    !store_scoring::is_retired(entry)
+}
+
 // Makes the change of a sheet of n entries with the size parameter m, whose counts the work array has by range number. Everything is drawn
-// in the work array; the slices are written only after that.
+// in the work array; the slices are written only after that, the tallies last. Where no boat is retired these are the counts.
 pub fn make(
     slots: &mut [u64],
     counts: &mut [u16],
+    tallies: &mut [u16],
     work: &mut [u32],
     n: usize,
     m: usize,
@@ -70,11 +89,12 @@ pub fn make(
     entry: u64,
     tape: &[u32],
 ) -> Made
-    requires { ⌜ ChangeReady clubs change entry n m (storeOf (now slots) (now counts)) (now work) ⌝ }
-    ensures { λ r. ⌜ outcomeOf (answerTo r) (now (slots .exit)) (now (counts .exit)) []
-        ≡ outcome (plain clubs) (changing change entry) (now (tape .entry)) (storeOf (now (slots .entry)) (now (counts .entry))) [] ⌝ }
+    requires { ⌜ PlainReady change entry n m (plainStoreOf (now slots) (now counts) (now tallies)) (now work) ⌝ }
+    ensures { λ r. ⌜ plainOutcomeOf (answerTo r) (now (slots .exit)) (now (counts .exit)) (now (tallies .exit)) []
+        ≡ outcome (plain clubs) (changing change entry) (now (tape .entry)) (plainStoreOf (now (slots .entry)) (now (counts .entry)) (now (tallies .entry))) [] ⌝ }
 {
     let after = tree_counts::count_after(change, n);
+    let scoring = all_score(tallies, n, entry);
     match tree_update::update(change, n, m, work, tape) {
         Updated::Done {
             m: size,
@@ -89,6 +109,11 @@ pub fn make(
                 entry: entry,
             };
             write_drawn(slots, counts, work, drawn);
+            if scoring {
+                store_tally_copies::copy_counts(tallies, counts);
+            } else {
+                call_tallies::write_tallies(Size { m: size }, part, slots, tallies, work);
+            }
             Made::Done {
                 n: after,
                 words: next,

@@ -1,11 +1,18 @@
-// A store looked at by the clubs' capacity.
+// A plain store looked at by the clubs' capacity: the causes 1 and 2.
+ghost use mathlib.Core.Option.{some};
 ghost use mathlib.Core.Path.{_≡_};
 ghost use lib.ListN.{length};
-ghost use Rattle.call_outcomes.specs.Plain.{storeOf};
+ghost use Rattle.store_layout.specs.Decode.{Contents, decode};
+ghost use Rattle.call_outcomes.specs.Untallied.{storeOf};
+ghost use Rattle.call_outcomes.specs.Slice.{sliceTest};
+ghost use Rattle.call_outcomes.specs.Plain.{tallySlice, plainView, plainStoreOf};
 ghost use Rattle.call_outcomes.specs.Clubs.{clubs};
-ghost use Rattle.call_open.specs.Opening.{Opening};
+ghost use Rattle.call_open.specs.Opening.{Opening, plainNumbers};
+ghost use Rattle.sheet_open.specs.Tested.{HoldsSheet};
 use call_open::Opened;
+use call_outcomes::Cause;
 use store_layout::Capacity;
+use tree_sizes::Size;
 
 // What the clubs' store has room for.
 fn capacity() -> Capacity
@@ -18,11 +25,37 @@ fn capacity() -> Capacity
     }
 }
 
-// Looks at slots and counts: the lengths are right and they are a plain sheet, whose counts are copied to the work array by range number; or
-// cause 1 or 2 decides.
-pub fn examine(slots: &[u64], counts: &[u16], work: &mut [u32]) -> Opened
-    requires { ⌜ length (now work) ≡ 256 ⌝ }
-    ensures { λ r. ⌜ Opening clubs (storeOf (now (slots .entry)) (now (counts .entry))) r (now (work .exit)) ⌝ }
+// The tallies are those of the sheet in slots and counts. Where no boat is retired these are the counts, and nothing is counted.
+fn is_tallied(size: Size, slots: &[u64], counts: &[u16], tallies: &[u16]) -> bool
+    requires sheet { ⌜ HoldsSheet (size .m) (storeOf (now slots) (now counts)) ⌝ }
+    requires lengths { ⌜ length (now tallies) ≡ 256 ⌝ }
+    ensures { λ r. ⌜ ((c : Contents) → decode clubs (storeOf (now (slots .entry)) (now (counts .entry))) ≡ some c
+        → r ≡ sliceTest (tallySlice clubs) (now (tallies .entry)) c) ⌝ }
 {
-    call_open::examine(capacity(), slots, counts, work)
+    if store_scoring::none_retired(slots, size.slots()) {
+        return store_tally_copies::are_counts(tallies, counts);
+    }
+    let mut numbers = [0u32; 256];
+    let mut right = [0u16; 256];
+    call_tallies::are_tallies(size, slots, tallies, &mut numbers, &mut right)
+}
+
+// Looks at slots, counts and tallies: the lengths are right and they are a plain sheet, whose counts are copied to the work array by range
+// number; or cause 1 or 2 decides.
+pub fn examine(slots: &[u64], counts: &[u16], tallies: &[u16], work: &mut [u32]) -> Opened
+    requires { ⌜ length (now work) ≡ 256 ⌝ }
+    ensures { λ r. ⌜ Opening (plainView clubs) plainNumbers (plainStoreOf (now (slots .entry)) (now (counts .entry)) (now (tallies .entry))) r (now (work .exit)) ⌝ }
+{
+    if tallies.len() != 256 {
+        return Opened::Refused(Cause::Lengths);
+    }
+    match call_open::examine(capacity(), slots, counts, work) {
+        Opened::Sheet { n, m } => {
+            if !is_tallied(Size { m: m }, slots, counts, tallies) {
+                return Opened::Refused(Cause::NotASheet);
+            }
+            Opened::Sheet { n: n, m: m }
+        }
+        Opened::Refused(cause) => Opened::Refused(cause),
+    }
 }

@@ -12,7 +12,7 @@ use Rattle.call_orders.specs.ConversionLaws.{conversion-done}
 
 module _ {counts work new : List ℕ} (c : Convertible clubs counts) where
   -- Copied in as they stand, and written in the tree order.
-  pub tree-order-done : work ≡ counts → new ≡ countOrder (height (getD work 0 0)) work
+  pub tree-order-done : work ≡ counts → new ≡ countOrder (height (getD counts 0 0)) work
       → _≡_ {A = Conversion} (record { answer = Converted (getD counts 0 0); counts = new }) (conversion clubs toTree counts)
   unfolding toTree
   tree-order-done same written = rw (written, same) (sym (conversion-done clubs toTree counts c))

@@ -4,6 +4,7 @@ ghost use Rattle.call_outcomes.specs.Clubs.{clubs};
 ghost use Rattle.call_orders.specs.Conversion.{toTree, toNumber, conversion};
 use call_outcomes::Answer;
 use call_outcomes::Cause;
+use tree_sizes::Size;
 
 // Moves each count of a range from the index of the range's number to its place in the tree order.
 pub fn to_tree_order(counts: &mut [u16]) -> Answer
@@ -18,7 +19,8 @@ pub fn to_tree_order(counts: &mut [u16]) -> Answer
     }
     let mut work = [0u32; 256];
     store_counts::copy_in(counts, &mut work);
-    store_counts::write_counts(&work, counts);
+    let size = Size { m: m };
+    store_counts::write_counts(size, &work, counts);
     Answer::Converted { m: m }
 }
 
@@ -34,7 +36,8 @@ pub fn to_number_order(counts: &mut [u16]) -> Answer
         return Answer::Refused(Cause::NotASheet);
     }
     let mut work = [0u32; 256];
-    store_counts::read_counts(counts, &mut work);
+    let size = Size { m: m };
+    store_counts::read_counts(size, counts, &mut work);
     store_counts::copy_out(counts, &work);
     Answer::Converted { m: m }
 }

@@ -5,6 +5,5 @@ pub mod Rows
 pub mod BalanceLaws
 pub mod FirstLaws
 pub mod RowLaws
-pub mod SameLaws
 pub mod BalanceInLaws
 pub mod Examples

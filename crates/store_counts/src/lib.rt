@@ -1,7 +1,7 @@
 // The counts of a store, read and written in their order: with `store_tree_read` and `store_tree_write` the only code that knows it.
 ghost use mathlib.Core.Path.{_≡_};
 ghost use Prim.Native.Nat.{_*_, _^_, _<_, _≤_};
-ghost use lib.ListN.{length, getD, replicate};
+ghost use lib.ListN.{length, replicate};
 ghost use Rattle.base.specs.Lists.{Every};
 ghost use Rattle.tree_sizes.specs.Sizes.{height};
 ghost use Rattle.store_order.specs.Copied.{putTo, putFrom, RestCopied};
@@ -96,14 +96,12 @@ pub fn copy_out(counts: &mut [u16], work: &[u32])
     write_rest(counts, 1, work);
 }
 
-// Copies the counts into a work array, by range number.
-pub fn read_counts(counts: &[u16], work: &mut [u32])
+// Copies the counts of a sheet of this size into a work array, by range number.
+pub fn read_counts(size: Size, counts: &[u16], work: &mut [u32])
     requires lengths { ⌜ length (now work) ≡ length (now counts) ⌝ }
-    requires room { ⌜ 2 * 2 ^ height (getD (now counts) 0 0) ≤ length (now counts) ⌝ }
-    ensures { λ _. ⌜ now (work .exit) ≡ numberOrder (height (getD (now (counts .entry)) 0 0)) (now (counts .entry)) ⌝ }
+    requires room { ⌜ 2 * 2 ^ height (size .m) ≤ length (now counts) ⌝ }
+    ensures { λ _. ⌜ now (work .exit) ≡ numberOrder (height (size .m)) (now (counts .entry)) ⌝ }
 {
-    let m = counts[0] as usize;
-    let size = Size { m: m };
     let levels = size.height() + 1;
     read_rest(counts, tree_sizes::power(levels), work);
     if levels == 8 {
@@ -113,15 +111,13 @@ pub fn read_counts(counts: &[u16], work: &mut [u32])
     }
 }
 
-// Copies the counts back out of a work array, by range number, whose numbers fit.
-pub fn write_counts(work: &[u32], counts: &mut [u16])
+// Copies the counts of a sheet of this size back out of a work array, by range number, whose numbers fit.
+pub fn write_counts(size: Size, work: &[u32], counts: &mut [u16])
     requires lengths { ⌜ length (now counts) ≡ length (now work) ⌝ }
     requires small { ⌜ Every (λ c. c < 2 ^ 16) (now work) ⌝ }
-    requires room { ⌜ 2 * 2 ^ height (getD (now work) 0 0) ≤ length (now work) ⌝ }
-    ensures { λ _. ⌜ now (counts .exit) ≡ countOrder (height (getD (now (work .entry)) 0 0)) (now (work .entry)) ⌝ }
+    requires room { ⌜ 2 * 2 ^ height (size .m) ≤ length (now work) ⌝ }
+    ensures { λ _. ⌜ now (counts .exit) ≡ countOrder (height (size .m)) (now (work .entry)) ⌝ }
 {
-    let m = work[0] as usize;
-    let size = Size { m: m };
     let levels = size.height() + 1;
     write_rest(counts, tree_sizes::power(levels), work);
     if levels == 8 {

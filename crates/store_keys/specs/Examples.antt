@@ -19,18 +19,23 @@ falling : rises (3 ∷ 9 ∷ 5 ∷ []) ≡ false
 unfolding riseFrom key
 falling = refl
 
--- bit 63 changes nothing of the order: entries with it among others, one key twice, and the bit alone
-with-bit : rises (3 ∷ (2 ^ 63 + 5) ∷ 9 ∷ []) ≡ true
+-- the bits 63 and 62 change nothing of the order: entries with them among others, one key twice, and the bits alone
+with-bits : rises (3 ∷ (2 ^ 63 + 5) ∷ (2 ^ 62 + 9) ∷ (2 ^ 63 + 2 ^ 62 + 11) ∷ []) ≡ true
 unfolding riseFrom key
-with-bit = refl
+with-bits = refl
 
-twice : rises (3 ∷ 5 ∷ (2 ^ 63 + 5) ∷ []) ≡ false
+twice : (rises (3 ∷ 5 ∷ (2 ^ 63 + 5) ∷ []) ≡ false) × (rises (3 ∷ (2 ^ 62 + 5) ∷ 5 ∷ []) ≡ false)
 unfolding riseFrom key
-twice = refl
+twice = (refl, refl)
 
-bit-alone : rises ((2 ^ 63) ∷ []) ≡ false
+bits-alone : (rises ((2 ^ 63) ∷ []) ≡ false) × (rises ((2 ^ 62) ∷ []) ≡ false) × (rises ((2 ^ 63 + 2 ^ 62) ∷ []) ≡ false)
 unfolding riseFrom key
-bit-alone = refl
+bits-alone = (refl, refl, refl)
+
+-- bit 61 alone is a key
+bit-61 : rises ((2 ^ 61) ∷ []) ≡ true
+unfolding riseFrom key
+bit-61 = refl
 
 -- an entry that is there, and one that would stand between two others
 there : (present 5 (3 ∷ 5 ∷ 9 ∷ []) ≡ true) × (rankOf 5 (3 ∷ 5 ∷ 9 ∷ []) ≡ 1)

@@ -1,4 +1,4 @@
--- Entries of a timed sheet compared by their keys (document 02, F-1 and F-3): lists that rise, and the rank of a key. Definitions only.
+-- Entries of a timed sheet compared by their keys (document 02, F-1, F-3 and F-11): lists that rise, and the rank of a key. Definitions only.
 use mathlib.Core.Bool.{Bool, true, false, _&&_, _||_}
 use mathlib.Core.List.{List, [], _∷_}
 use Prim.Native.Nat.{ℕ, suc, _%_, _^_, _<_}
@@ -6,9 +6,9 @@ use lib.Dec.{eqb, ltb}
 use Rattle.base.specs.Cases.{ifLt}
 use Rattle.base.specs.Lists.{Every}
 
--- The key of an entry is the entry without bit 63: the finish time in the bits from 32 on, the sail number in the lower 32.
+-- The key of an entry is the entry without the bits 63 and 62: the finish time in the bits from 32 on, the sail number in the lower 32.
 unfoldable pub key : ℕ → ℕ
-key e = e % 2 ^ 63
+key e = e % 2 ^ 62
 
 -- The keys rise strictly, the first one from above `low`; and the test of that.
 unfoldable pub RiseFrom : ℕ → List ℕ → Type 0

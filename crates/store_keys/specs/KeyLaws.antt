@@ -3,8 +3,8 @@ use mathlib.Core.Path.{_≡_, refl, sym, ap, _∙_}
 use mathlib.Core.Bool.{Bool, true, false, _||_, or-assoc, or-false, or-true}
 use mathlib.Core.List.{List, [], _∷_, _++_}
 use mathlib.Core.Logic.{⊎-elim}
-use Prim.Native.Nat.{ℕ, zero, suc, _+_, _^_, _≤_, _<_}
-use native.Mathlib.Nat.{add-mod-left, add-zero, eq-or-lt-of-le, le-of-suc-le-suc, mod-eq-of-lt, mod-le, not-suc-le-zero}
+use Prim.Native.Nat.{ℕ, zero, suc, _+_, _*_, _^_, _≤_, _<_}
+use native.Mathlib.Nat.{mul-add-mod-self-right, add-zero, eq-or-lt-of-le, le-of-suc-le-suc, mod-eq-of-lt, mod-le, not-suc-le-zero}
 use native.Mathlib.Omega.{arith}
 use lib.Dec.{eqb, ltb}
 use lib.ListN.{length, getD, take, drop}
@@ -172,12 +172,12 @@ delete-rises i list = delete-from 0 i list
 -- An entry whose key is not 0 is not 0.
 pub key-entry : (e : ℕ) → 0 < key e → 0 < e
 unfolding key
-key-entry e h = omega (arith, mod-le e (2 ^ 63))
+key-entry e h = omega (arith, mod-le e (2 ^ 62))
 
--- The bit changes nothing of a key.
-pub key-without-bit : (e : ℕ) → e < 2 ^ 63 → (key e ≡ e) × (key (2 ^ 63 + e) ≡ e)
+-- The bits 62 and 63 change nothing of a key: 1 stands for bit 62, 2 for bit 63, and 3 for both.
+pub key-without-bits : (bits e : ℕ) → e < 2 ^ 62 → key (bits * 2 ^ 62 + e) ≡ e
 unfolding key
-key-without-bit e h = (mod-eq-of-lt h, add-mod-left (2 ^ 63) e ∙ mod-eq-of-lt h)
+key-without-bits bits e h = mul-add-mod-self-right bits (2 ^ 62) e ∙ mod-eq-of-lt h
 
 -- ---- what is found in a list that rises
 

@@ -11,7 +11,7 @@ ghost use Rattle.store_keys.specs.Passed.{keyAfter};
 pub fn key(entry: u64) -> u64
     ensures { λ r. ⌜ r ≡ keys.key entry ⌝ }
 {
-    entry % 9223372036854775808
+    entry % 4611686018427387904
 }
 
 // The last key behind a slot: that of the entry that it holds, and the one before where it holds none.

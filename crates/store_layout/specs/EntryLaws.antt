@@ -3,6 +3,7 @@ use mathlib.Core.Path.{_≡_, refl, sym, _∙_, ap, ap₂}
 use mathlib.Core.List.{List, [], _∷_, _++_, map, map-append}
 use Prim.Native.Nat.{ℕ, zero, suc, _-_}
 use lib.ListN.{length, take, drop, set, replicate, length-map}
+use Rattle.base.specs.ListLaws.{map-take, map-drop}
 use Rattle.tree_sizes.specs.Sizes.{leafSlots}
 use Rattle.tree_rules.specs.Tree.{Shape}
 use Rattle.store_layout.specs.declared.Capacity.{Capacity}
@@ -11,16 +12,6 @@ use Rattle.store_layout.specs.Layout.{leafCounts, layLeaves, padTo, layS
 
 -- f puts another entry in the place of each, and nothing in the place of none.
 module _ (f : ℕ → ℕ) (none : f 0 ≡ 0) where
-  map-take : (n : ℕ) (xs : List ℕ) → take n (map f xs) ≡ map f (take n xs)
-  map-take zero xs = refl
-  map-take (suc n) [] = refl
-  map-take (suc n) (x ∷ xs) = ap (λ (ys : List ℕ). f x ∷ ys) (map-take n xs)
-
-  map-drop : (n : ℕ) (xs : List ℕ) → drop n (map f xs) ≡ map f (drop n xs)
-  map-drop zero xs = refl
-  map-drop (suc n) [] = refl
-  map-drop (suc n) (x ∷ xs) = map-drop n xs
-
   map-set : (xs : List ℕ) (i x : ℕ) → set (map f xs) i (f x) ≡ map f (set xs i x)
   map-set [] i x = refl
   map-set (y ∷ xs) zero x = refl
@@ -44,7 +35,7 @@ module _ (f : ℕ → ℕ) (none : f 0 ≡ 0) where
   unfolding layLeaves
   map-leaves s [] list = refl
   map-leaves s (n ∷ ns) list =
-      rw (map-take n list, map-drop n list, map-spread s (take n list), map-leaves s ns (drop n list))
+      rw (map-take f n list, map-drop f n list, map-spread s (take n list), map-leaves s ns (drop n list))
       (sym (map-append f (spread s (take n list)) (layLeaves s ns (drop n list))))
 
   pub map-layOut : (cap : Capacity) (list : List ℕ) (s : Shape)

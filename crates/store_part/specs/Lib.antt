@@ -7,4 +7,5 @@ pub mod RegionLaws
 pub mod LocatedLaws
 pub mod PlanLaws
 pub mod LayPartLaws
+pub mod KeepLaws
 pub mod CountBounds

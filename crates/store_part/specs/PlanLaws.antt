@@ -39,7 +39,7 @@ use Rattle.store_part.specs.Plan.{partFrom, partLength, partCounts, zero
 
 -- ---- lists
 
-zeroed-none : (k : ℕ) (xs : List ℕ) → zeroed k k xs ≡ xs
+pub zeroed-none : (k : ℕ) (xs : List ℕ) → zeroed k k xs ≡ xs
 unfolding zeroed
 zeroed-none k xs = rw (sub-self k) (rw append-nil (take-append-drop k xs))
 

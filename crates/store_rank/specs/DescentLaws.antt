@@ -59,6 +59,6 @@ module _ (M : ℕ) {counts : List ℕ} {rank k rest : ℕ} (w : Descent (height 
       let inside : k - 2 ^ height M ≤ 2 ^ height M = omega (arith, w .before) in
       omega (arith, mul-le-mul-left (leafSlots M) inside, slots-le M)
 
-  pub descent-start : _≡_ {A = Start} (record { slot = leafSlots M * (k - 2 ^ height M); rank = rest }) (startOf M counts rank)
+  pub descent-start : _≡_ {A = Start} (record { slot = leafSlots M * (k - 2 ^ height M); rank = rest; leaf = k }) (startOf M counts rank)
   unfolding leafOf startOf
-  descent-start = ap {B = Start} (λ (p : InLeaf). record { slot = leafSlots M * (p .leaf - 2 ^ height M); rank = p .rank }) (w .same)
+  descent-start = ap {B = Start} (λ (p : InLeaf). record { slot = leafSlots M * (p .leaf - 2 ^ height M); rank = p .rank; leaf = p .leaf }) (w .same)

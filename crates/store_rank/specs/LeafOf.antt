@@ -18,9 +18,10 @@ leafOf zero counts k rank = record { leaf = k; rank = rank }
 leafOf (suc levels) counts k rank =
     ifLt rank (getD counts (2 * k) 0) (leafOf levels counts (2 * k) rank) (leafOf levels counts (2 * k + 1) (rank - getD counts (2 * k) 0))
 
--- The same in a sheet of size M, whose leaves have the range numbers from 2 ^ h on, by the first slot of the leaf.
+-- The same in a sheet of size M, whose leaves have the range numbers from 2 ^ h on, with the first slot of the leaf.
 unfoldable pub startOf : ℕ → List ℕ → ℕ → Start
 startOf M counts rank = record {
   slot = leafSlots M * (leafOf (height M) counts 1 rank .leaf - 2 ^ height M);
   rank = leafOf (height M) counts 1 rank .rank;
+  leaf = leafOf (height M) counts 1 rank .leaf;
 }

@@ -7,10 +7,11 @@ ghost use Rattle.store_rank.specs.LeafOf.{startOf};
 use store_layout::count_at;
 use tree_sizes::Size;
 
-// The first slot of a leaf, and the rank of an entry among those from this slot on.
+// The first slot of a leaf, the rank of an entry among those from this slot on, and the range number of the leaf.
 pub struct Start {
     pub slot: usize,
     pub rank: usize,
+    pub leaf: usize,
 }
 
 // Goes down the ranges of a sheet of this size to the leaf in which the entry of the rank stands: into the left half of a range where this
@@ -33,10 +34,11 @@ pub fn start_of(size: Size, counts: &[u32], rank: usize) -> Start
             range += 1;
         }
     }
-    let leaf = range - tree_sizes::power(h);
-    let slot = size.leaf_slots() * leaf;
+    let before = range - tree_sizes::power(h);
+    let slot = size.leaf_slots() * before;
     Start {
         slot: slot,
         rank: rest,
+        leaf: range,
     }
 }

@@ -1,80 +1,50 @@
--- The entries before a slot and from it on, and what one slot back leaves.
+-- The entries before a slot and from it on, and what one slot more adds to them.
+use mathlib.Core.Bool.{true, false, _&&_}
 use mathlib.Core.Path.{_≡_, sym, _∙_, ap}
-use mathlib.Core.List.{List, [], _∷_, _++_}
-use Prim.Native.Nat.{ℕ, zero, suc, _+_, _-_, _≤_, _<_}
-use native.Mathlib.Omega.{arith}
-use lib.ListN.{length, getD, take, drop, length-append, length-drop, take-append-drop}
-use lib.Seq.{length-take-le, take-suc, drop-at}
+use mathlib.Core.List.{List, [], _∷_, _++_, append-nil}
+use Prim.Native.Nat.{ℕ, suc, _+_, _<_}
+use native.Mathlib.Numerals.{add-one}
+use lib.ListN.{length, getD, take, drop, take-append-drop}
+use lib.Seq.{drop-cons}
 use Rattle.store_layout.specs.Leaf.{nonzero}
-use Rattle.store_layout.specs.LeafLaws.{nonzero-append, nonzero-zero, nonzero-entry, nonzero-length}
-use Rattle.store_slices.specs.ReadLaws.{slot-read}
-use Rattle.store_ties.specs.Steps.{Before}
+use Rattle.store_layout.specs.LeafLaws.{nonzero-append, nonzero-zero, nonzero-entry}
+use Rattle.store_scoring.specs.Scoring.{retiredBit, tally}
+use Rattle.store_scoring.specs.ScoringLaws.{entries-next}
+use Rattle.store_ties.specs.Ties.{tieBit}
+use Rattle.store_ties.specs.Steps.{entriesBefore, InSlot, endTied}
+use Rattle.store_ties.specs.TiesLaws.{tally-last-retired, tally-last-scoring, end-last-retired, end-last-scoring}
 
-module _ (slots : List ℕ) where
-  parted : (i : ℕ) → nonzero slots ≡ nonzero (take i slots) ++ nonzero (drop i slots)
-  parted i = ap nonzero (sym (take-append-drop i slots)) ∙ nonzero-append (take i slots) (drop i slots)
+module _ (slots : List ℕ) (i : ℕ) where
+  pub parted : nonzero slots ≡ entriesBefore slots i ++ nonzero (drop i slots)
+  parted = ap nonzero (sym (take-append-drop i slots)) ∙ nonzero-append (take i slots) (drop i slots)
 
-  -- The entries from the slot on tell how many stand before it.
-  pub before-by-rest : (i k : ℕ) → i ≤ length slots → k ≤ length (nonzero slots) → drop k (nonzero slots) ≡ nonzero (drop i slots) → Before slots i k
-  before-by-rest i k inside most rest = record {
-    inside = inside;
-    entries =
-        omega (
-          arith,
-          ap length (parted i),
-          length-append (nonzero (take i slots)) (nonzero (drop i slots)),
-          ap length rest,
-          length-drop k (nonzero slots),
-        );
-  }
-
-module _ {slots : List ℕ} {i k : ℕ} (w : Before slots i k) where
-  pub before-most : (k ≤ length (nonzero slots)) × (k ≤ i)
-  before-most = (
-    omega (arith, ap length (parted slots i), length-append (nonzero (take i slots)) (nonzero (drop i slots)), w .entries),
-    omega (arith, w .entries, nonzero-length (take i slots), length-take-le i slots (w .inside)),
-  )
-
-  pub rest-by-before : drop k (nonzero slots) ≡ nonzero (drop i slots)
-  rest-by-before = ap (drop k) (parted slots i) ∙ drop-at (nonzero (take i slots)) (nonzero (drop i slots)) k (w .entries)
-
-  -- A slot that holds an entry holds the entry number k.
-  pub entry-held : k < length (nonzero slots) → (getD slots i 0 ≡ 0 → ⊥) → getD slots i 0 ≡ getD (nonzero slots) k 0
-  entry-held more full = slot-read slots (nonzero slots) k i rest-by-before more .entry full
-
--- ---- one slot back
-
-module _ {slots : List ℕ} {k : ℕ} where
-  pub slot-before : (i : ℕ) → Before slots i k → 0 < k → 0 < i
+  -- one slot more
+  pub next-empty : i < length slots → getD slots i 0 ≡ 0 → entriesBefore slots (i + 1) ≡ entriesBefore slots i
   unfolding nonzero
-  slot-before zero w some = absurd (omega (arith, w .entries))
-  slot-before (suc i) w some = omega arith
+  next-empty inside none = entries-next slots i inside ∙ rw (nonzero-zero (getD slots i 0) [] none) (append-nil (entriesBefore slots i))
 
-  module _ (i : ℕ) (w : Before slots i k) (more : 0 < i) where
-    -- the slot before, with as many entries as stand before it
-    back : (n : ℕ) → k ≡ n + length (nonzero (getD slots (i - 1) 0 ∷ [])) → Before slots (i - 1) n
-    back n one =
-        let last : suc (i - 1) ≡ i = omega arith in
-        let slot = getD slots (i - 1) 0 ∷ [] in
-        let front = take (i - 1) slots in
-        record {
-          inside = omega (arith, w .inside);
-          entries =
-              omega (
-                arith,
-                ap (λ (j : ℕ). length (nonzero (take j slots))) last,
-                ap (λ (xs : List ℕ). length (nonzero xs)) (take-suc slots (i - 1) 0 (omega (arith, w .inside))),
-                ap length (nonzero-append front slot),
-                length-append (nonzero front) (nonzero slot),
-                w .entries,
-                one,
-              );
-        }
-
-    pub back-empty : getD slots (i - 1) 0 ≡ 0 → Before slots (i - 1) k
+  module _ (w : InSlot slots i) where
+    pub next-entry : entriesBefore slots (i + 1) ≡ entriesBefore slots i ++ (getD slots i 0 ∷ [])
     unfolding nonzero
-    back-empty none = back k (omega (arith, ap length (nonzero-zero (getD slots (i - 1) 0) [] none)))
+    next-entry = entries-next slots i (w .inside) ∙ rw (nonzero-entry (getD slots i 0) [] (w .entry))
 
-    pub back-entry : (getD slots (i - 1) 0 ≡ 0 → ⊥) → 0 < k → Before slots (i - 1) (k - 1)
-    unfolding nonzero
-    back-entry full pos = back (k - 1) (omega (arith, ap length (nonzero-entry (getD slots (i - 1) 0) [] (omega arith))))
+    pub parted-entry : nonzero slots ≡ entriesBefore slots i ++ getD slots i 0 ∷ nonzero (drop (i + 1) slots)
+    parted-entry =
+        parted
+        ∙ rw (add-one i, drop-cons slots i 0 (w .inside), nonzero-entry (getD slots i 0) (drop (suc i) slots) (w .entry))
+
+    -- a retired boat
+    module _ (is : retiredBit (getD slots i 0) ≡ true) where
+      pub tally-next-retired : tally (entriesBefore slots (i + 1)) ≡ tally (entriesBefore slots i)
+      tally-next-retired = ap tally next-entry ∙ tally-last-retired (entriesBefore slots i) (getD slots i 0) is
+
+      pub end-next-retired : endTied true (entriesBefore slots (i + 1)) ≡ (endTied true (entriesBefore slots i) && tieBit (getD slots i 0))
+      end-next-retired = ap (endTied true) next-entry ∙ end-last-retired (entriesBefore slots i) (getD slots i 0) is
+
+    -- a scoring boat
+    module _ (is : retiredBit (getD slots i 0) ≡ false) where
+      pub tally-next-scoring : tally (entriesBefore slots (i + 1)) ≡ tally (entriesBefore slots i) + 1
+      tally-next-scoring = ap tally next-entry ∙ tally-last-scoring (entriesBefore slots i) (getD slots i 0) is
+
+      pub end-next-scoring : endTied true (entriesBefore slots (i + 1)) ≡ true
+      end-next-scoring = ap (endTied true) next-entry ∙ end-last-scoring (entriesBefore slots i) (getD slots i 0) is

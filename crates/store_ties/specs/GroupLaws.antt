@@ -5,10 +5,10 @@ use mathlib.Core.Logic.{⊎-elim}
 use Prim.Native.Nat.{ℕ, zero, suc, _+_, _-_, _≤_, _<_}
 use native.Mathlib.Nat.{not-suc-le-zero}
 use native.Mathlib.Omega.{arith}
-use Rattle.base.specs.BoolLaws.{true-or-false, not-true-false}
+use Rattle.base.specs.BoolLaws.{not-true-false}
 use Rattle.base.specs.CaseLaws.{lt-or-ge}
 use Rattle.store_ties.specs.Groups.{Run, Group, groupFirst, tiedFrom, groupEnd}
-use Rattle.store_ties.specs.StepLaws.{first-untied, first-tied, from-untied, from-tied}
+use Rattle.store_ties.specs.StepLaws.{by-tie, first-untied, first-tied, from-untied, from-tied}
 
 clash : {b : Bool} → b ≡ true → b ≡ false → ⊥
 clash is not = let z : _≡_ {A = ℕ} 0 1 = cc in omega arith
@@ -17,11 +17,6 @@ equal-unless : {m n : ℕ} → (m < n → ⊥) → (n < m → ⊥) → m ≡ n
 equal-unless {m} {n} f g = ⊎-elim (λ h. absurd (f h)) (λ h. ⊎-elim (λ l. absurd (g l)) (λ l. omega arith) (lt-or-ge n m)) (lt-or-ge m n)
 
 module _ (tied : ℕ → Bool) where
-  -- The two cases of a boat: she tied with the boat before her, or not.
-  module _ {A : Type 0} (i : ℕ) where
-    pub by-tie : (tied i ≡ true → A) → (tied i ≡ false → A) → A
-    by-tie f g = ⊎-elim f g (true-or-false (tied i))
-
   -- ---- the first boat
 
   first-before : (i : ℕ) → tied (suc i) ≡ true → groupFirst tied (suc i) ≡ groupFirst tied i
@@ -31,13 +26,13 @@ module _ (tied : ℕ → Bool) where
   unfolding groupFirst
   first-most zero = omega arith
   first-most (suc i) =
-      by-tie (suc i) (λ is. omega (arith, first-before i is, first-most i)) (λ is. omega (arith, first-untied tied (suc i) is))
+      by-tie tied (suc i) (λ is. omega (arith, first-before i is, first-most i)) (λ is. omega (arith, first-untied tied (suc i) is))
 
   first-linked : (i j : ℕ) → groupFirst tied i < j → j ≤ i → tied j ≡ true
   unfolding groupFirst
   first-linked zero j above below = absurd (omega (arith, above, below))
   first-linked (suc i) j above below =
-      by-tie (suc i)
+      by-tie tied (suc i)
       (λ is. ⊎-elim
       (λ (less : j < suc i). first-linked i j (omega (arith, above, first-before i is)) (omega arith))
       (λ (same : suc i ≤ j). let here : j ≡ suc i = omega arith in rw here is)
@@ -48,7 +43,7 @@ module _ (tied : ℕ → Bool) where
   unfolding groupFirst
   first-stops zero pos = absurd (not-suc-le-zero pos)
   first-stops (suc i) pos =
-      by-tie (suc i)
+      by-tie tied (suc i)
       (λ is. rw (first-before i is) (first-stops i (omega (arith, pos, first-before i is))))
       (λ is. rw (first-untied tied (suc i) is) is)
 
@@ -57,13 +52,13 @@ module _ (tied : ℕ → Bool) where
   pub from-most : (k i : ℕ) → tiedFrom tied k i ≤ k
   unfolding tiedFrom
   from-most zero i = omega arith
-  from-most (suc k) i = by-tie i (λ is. omega (arith, from-tied tied k i is, from-most k (suc i))) (λ is. omega (arith, from-untied tied (suc k) i is))
+  from-most (suc k) i = by-tie tied i (λ is. omega (arith, from-tied tied k i is, from-most k (suc i))) (λ is. omega (arith, from-untied tied (suc k) i is))
 
   from-linked : (k i j : ℕ) → i ≤ j → j < i + tiedFrom tied k i → tied j ≡ true
   unfolding tiedFrom
   from-linked zero i j above below = absurd (omega (arith, above, below))
   from-linked (suc k) i j above below =
-      by-tie i
+      by-tie tied i
       (λ is. ⊎-elim
       (λ (less : i < j). from-linked k (suc i) j less (omega (arith, below, from-tied tied k i is)))
       (λ (same : j ≤ i). let here : j ≡ i = omega arith in rw here is)
@@ -74,7 +69,7 @@ module _ (tied : ℕ → Bool) where
   unfolding tiedFrom
   from-stops zero i less = absurd (not-suc-le-zero less)
   from-stops (suc k) i less =
-      by-tie i
+      by-tie tied i
       (λ is.
       let behind : i + tiedFrom tied (suc k) i ≡ suc i + tiedFrom tied k (suc i) = omega (arith, from-tied tied k i is) in
       rw behind (from-stops k (suc i) (omega (arith, less, from-tied tied k i is))))

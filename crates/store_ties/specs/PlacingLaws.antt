@@ -1,34 +1,41 @@
--- What the boats of tied groups have: a boat alone has her own place, and the sums of all groups are the places from 1 on.
-use mathlib.Core.Bool.{Bool, false}
-use mathlib.Core.List.{List}
-use mathlib.Core.Path.{_≡_, refl, sym, _∙_, ap, ap₂}
+-- What the boats of tied groups have: a retired boat has no place, a scoring boat alone has her own one, and the sums of all groups are the places
+-- from 1 on.
+use mathlib.Core.Bool.{Bool, true, false, not}
+use mathlib.Core.List.{List, [], _∷_, map}
+use mathlib.Core.Path.{_≡_, refl, sym, _∙_, ap, ap₂, fun-ext}
 use mathlib.Core.Logic.{⊎-elim}
-use Prim.Native.Nat.{ℕ, zero, suc, _+_, _-_, _^_, _≤_, _<_}
+use Prim.Native.Nat.{ℕ, zero, suc, _+_, _-_, _%_, _^_, _≤_, _<_}
+use native.Mathlib.Nat.{mod-eq-of-lt}
 use native.Mathlib.Numerals.{add-one}
 use native.Mathlib.Omega.{arith}
-use lib.ListN.{length, getD}
-use borrow.Author.Tests.{lt-leb}
+use lib.ListN.{length, getD, take, List·getD-map}
+use lib.Seq.{length-take-le}
+use borrow.Author.Tests.{lt-leb, not-true}
+use Rattle.base.specs.BoolLaws.{and-both}
 use Rattle.base.specs.CaseLaws.{lt-or-ge, ifEq-yes, ifEq-no}
 use Rattle.base.specs.Lists.{Every}
 use Rattle.base.specs.ListLaws.{every-getD}
-use Rattle.store_ties.specs.declared.Placing.{Placing}
+use Rattle.store_scoring.specs.Scoring.{retiredBit, tally, noneRetired}
+use Rattle.store_scoring.specs.ScoringLaws.{none-parts, none-tally}
 use Rattle.store_ties.specs.Groups.{groupFirst, tiedFrom, groupEnd, placesSum, placing, placingOf, single, sumsFrom, groupSums}
-use Rattle.store_ties.specs.Ties.{tieBit, tiedIn, placingIn}
-use Rattle.store_ties.specs.StepLaws.{first-untied, first-tied, from-untied, from-tied}
+use Rattle.store_ties.specs.Ties.{tieBit, tiesFrom, tiedIn, noPlace, placingIn}
+use Rattle.store_ties.specs.TiesLaws.{ties-scoring}
+use Rattle.store_ties.specs.StepLaws.{by-tie, first-untied, first-tied, from-untied, from-tied}
 use Rattle.store_ties.specs.SumLaws.{sum-append}
-use Rattle.store_ties.specs.GroupLaws.{by-tie, first-most, from-most}
+use Rattle.store_ties.specs.GroupLaws.{first-most, from-most}
 
--- The placing of a rank by the first boat and the end of its group.
-pub placing-found : (list : List ℕ) (i : ℕ) {first end n : ℕ} {r : Placing} → first ≡ groupFirst (tiedIn list) i → end ≡ groupEnd (tiedIn list) n i
-    → n ≡ length list → r ≡ placing first end → r ≡ placingIn list i
-unfolding placingOf
-placing-found list i first-is end-is number is = rw (is, first-is, end-is, number)
+-- ---- retired and scoring boats
+
+module _ (list : List ℕ) (i : ℕ) where
+  pub retired-placing : retiredBit (getD list i 0) ≡ true → placingIn list i ≡ noPlace
+  unfolding placingIn
+  retired-placing is = rw (is, placingIn)
+
+  pub scoring-placing : retiredBit (getD list i 0) ≡ false → placingIn list i ≡ placingOf (tiedIn list) (tally list) (tally (take i list))
+  unfolding placingIn
+  scoring-placing is = rw (is, placingIn)
 
 -- ---- a boat alone
-
-no-bit : (e : ℕ) → e < 2 ^ 63 → tieBit e ≡ false
-unfolding tieBit
-no-bit e h = lt-leb (2 ^ 63) e h
 
 module _ (tied : ℕ → Bool) (N : ℕ) where
   first-alone : (i : ℕ) → (0 < i → tied i ≡ false) → groupFirst tied i ≡ i
@@ -54,12 +61,54 @@ module _ (tied : ℕ → Bool) (N : ℕ) where
       let own : suc i + 0 ≡ i + 1 = omega arith in
       rw (first-alone i before, end-alone i behind, one, own, add-one i) refl
 
--- Without bits F-3 is the rule of document 01.
-pub no-bits : (list : List ℕ) → Every (λ e. e < 2 ^ 63) list → (i : ℕ) → i < length list → placingIn list i ≡ single i
-no-bits list w i below = alone (tiedIn list) (length list) i (λ pos. without i below) (λ more. without (suc i) more)
-  where
-    without : (j : ℕ) → j < length list → tiedIn list j ≡ false
-    without j inside = no-bit (getD list j 0) (every-getD (λ e. e < 2 ^ 63) list j 0 w inside)
+-- ---- lists without retired boats
+
+none-at : (list : List ℕ) → noneRetired list ≡ true → (i : ℕ) → i < length list → retiredBit (getD list i 0) ≡ false
+unfolding noneRetired
+none-at [] none i below = absurd (omega arith)
+none-at (e ∷ list) none zero below = not-true (retiredBit e) (and-both (not (retiredBit e)) (noneRetired list) none .0)
+none-at (e ∷ list) none (suc i) below = none-at list (and-both (not (retiredBit e)) (noneRetired list) none .1) i (omega arith)
+
+-- Each boat ties by her own bit.
+none-ties : (list : List ℕ) → noneRetired list ≡ true → tiesFrom true list ≡ map tieBit list
+unfolding noneRetired tiesFrom
+none-ties [] none = refl
+none-ties (e ∷ list) none =
+    let both = and-both (not (retiredBit e)) (noneRetired list) none in
+    ties-scoring true e list (not-true (retiredBit e) (both .0)) ∙ ap (λ (bs : List Bool). tieBit e ∷ bs) (none-ties list (both .1))
+
+none-tied : (list : List ℕ) → noneRetired list ≡ true → tiedIn list ≡ (λ j. tieBit (getD list j 0))
+unfolding tieBit
+none-tied list none = fun-ext (λ j. ap (λ (bs : List Bool). getD bs j false) (none-ties list none) ∙ List·getD-map tieBit list j 0)
+
+-- Where no boat is retired, F-11 is the rule of F-3: every boat has her rank among the scoring boats, and ties by her own bit.
+pub none-retired : (list : List ℕ) → noneRetired list ≡ true → (i : ℕ) → i < length list
+    → placingIn list i ≡ placingOf (λ j. tieBit (getD list j 0)) (length list) i
+none-retired list none i below =
+    let ahead : tally (take i list) ≡ i = none-tally (take i list) (none-parts i list none .0) ∙ length-take-le i list (omega arith) in
+    scoring-placing list i (none-at list none i below) ∙ rw (none-tied list none, none-tally list none, ahead)
+
+-- ---- lists without bits
+
+no-bits-retired : (list : List ℕ) → Every (λ e. e < 2 ^ 62) list → noneRetired list ≡ true
+unfolding Every noneRetired retiredBit
+no-bits-retired [] w = refl
+no-bits-retired (e ∷ list) w =
+    let low : e < 2 ^ 62 = w .0 in
+    let small : e % 2 ^ 63 ≡ e = mod-eq-of-lt (omega arith) in
+    rw (small, lt-leb (2 ^ 62) e low, no-bits-retired list (w .1))
+
+no-bits-tied : (list : List ℕ) → Every (λ e. e < 2 ^ 62) list → (j : ℕ) → j < length list → tieBit (getD list j 0) ≡ false
+unfolding tieBit
+no-bits-tied list w j inside =
+    let low : getD list j 0 < 2 ^ 62 = every-getD (λ e. e < 2 ^ 62) list j 0 w inside in
+    lt-leb (2 ^ 63) (getD list j 0) (omega arith)
+
+-- Without bits it is the rule of document 01.
+pub no-bits : (list : List ℕ) → Every (λ e. e < 2 ^ 62) list → (i : ℕ) → i < length list → placingIn list i ≡ single i
+no-bits list w i below =
+    none-retired list (no-bits-retired list w) i below
+    ∙ alone (λ j. tieBit (getD list j 0)) (length list) i (λ pos. no-bits-tied list w i below) (no-bits-tied list w (suc i))
 
 -- ---- the sums of all groups
 

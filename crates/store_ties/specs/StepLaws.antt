@@ -1,13 +1,20 @@
 -- The search for a tied group, boat by boat: back to its first, and on to its last.
 use mathlib.Core.Bool.{Bool, true, false}
 use mathlib.Core.Path.{_≡_, refl, sym, _∙_, ap}
+use mathlib.Core.Logic.{⊎-elim}
 use Prim.Native.Nat.{ℕ, zero, suc, _+_, _-_, _≤_, _<_}
 use native.Mathlib.Numerals.{add-one}
 use native.Mathlib.Omega.{arith}
+use Rattle.base.specs.BoolLaws.{true-or-false}
 use Rattle.store_ties.specs.Groups.{groupFirst, tiedFrom, groupEnd}
 use Rattle.store_ties.specs.Steps.{FirstBefore, EndFrom}
 
 module _ (tied : ℕ → Bool) where
+  -- The two cases of a boat: she tied with the boat before her, or not.
+  module _ {A : Type 0} (i : ℕ) where
+    pub by-tie : (tied i ≡ true → A) → (tied i ≡ false → A) → A
+    by-tie f g = ⊎-elim f g (true-or-false (tied i))
+
   pub first-untied : (i : ℕ) → tied i ≡ false → groupFirst tied i ≡ i
   unfolding groupFirst
   first-untied zero is = refl
@@ -27,21 +34,30 @@ module _ (tied : ℕ → Bool) where
   unfolding tiedFrom
   from-tied k i is = rw (tiedFrom, is) refl
 
-pub first-start : {tied : ℕ → Bool} {i : ℕ} → FirstBefore tied i (i + 1)
+-- ---- back
+
+pub first-start : {tied : ℕ → Bool} {i : ℕ} → FirstBefore tied i (i + 1) true
 first-start {i = i} = let last : i + 1 - 1 ≡ i = omega arith in record { same = rw last refl }
 
-module _ {tied : ℕ → Bool} {i k : ℕ} (w : FirstBefore tied i k) where
-  -- a boat that tied with the boat before her, and one that did not
-  pub back-tied : tied (k - 1) ≡ true → FirstBefore tied i (k - 1)
-  back-tied is = record { same = w .same ∙ first-tied tied (k - 1) is }
+module _ {tied : ℕ → Bool} {i k : ℕ} where
+  -- the last boat: whether she tied with the boat before her tells whether the group goes on to that one
+  pub back-boat : FirstBefore tied i k true → FirstBefore tied i (k - 1) (tied (k - 1))
+  back-boat w = record {
+    same = w .same
+        ∙ by-tie tied (k - 1) (λ is. rw is (first-tied tied (k - 1) is)) (λ is. rw is (first-untied tied (k - 1) is));
+  }
 
-  pub back-first : tied (k - 1) ≡ false → k - 1 ≡ groupFirst tied i
-  back-first is = sym (w .same ∙ first-untied tied (k - 1) is)
+  -- the group does not go on
+  pub back-first : FirstBefore tied i k false → k ≡ groupFirst tied i
+  back-first w = sym (w .same)
 
   -- no boat is left
-  pub back-zero : k ≡ 0 → 0 ≡ groupFirst tied i
+  pub back-zero : (joined : Bool) → FirstBefore tied i k joined → k ≡ 0 → 0 ≡ groupFirst tied i
   unfolding groupFirst
-  back-zero none = sym (w .same ∙ rw none refl)
+  back-zero true w none = sym (w .same ∙ rw none refl)
+  back-zero false w none = sym (w .same ∙ none)
+
+-- ---- on
 
 pub end-next : {tied : ℕ → Bool} {N i : ℕ} → EndFrom tied N i (i + 1)
 unfolding groupEnd

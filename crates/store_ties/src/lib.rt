@@ -1,11 +1,12 @@
-// Boats tied at the line: the tied group of an entry, found in the slots beside it.
+// Boats tied at the line: the tied group of a scoring boat, found in the slots beside hers.
 ghost use mathlib.Core.Path.{_≡_};
-ghost use Prim.Native.Nat.{_+_, _^_, _<_};
-ghost use lib.ListN.{length, drop};
+ghost use Prim.Native.Nat.{_^_, _<_};
+ghost use lib.ListN.{length, take};
 ghost use Rattle.store_layout.specs.Leaf.{nonzero};
+ghost use Rattle.store_scoring.specs.Scoring.{tally};
 ghost use Rattle.store_ties.specs.Groups.{groupFirst, groupEnd, placing};
 ghost use Rattle.store_ties.specs.Ties.{tieBit, tiedIn, placingIn};
-ghost use Rattle.store_ties.specs.Steps.{Before};
+ghost use Rattle.store_ties.specs.Steps.{InSlot, Scores};
 
 // The first place of a tied group, the sum of its places, and the number of its boats.
 pub struct Placing {
@@ -14,25 +15,28 @@ pub struct Placing {
     pub boats: usize,
 }
 
-// The boat with this entry tied with the boat before her.
+// The boat with this entry bears the bit that ties her to the boat before her.
 fn is_tied(entry: u64) -> bool
     ensures { λ r. ⌜ r ≡ tieBit entry ⌝ }
 {
     entry >= 9223372036854775808
 }
 
-// The rank of the first boat in the group of the rank, which is that of the last entry in the slots before `end`.
-fn group_first(slots: &[u64], end: usize, rank: usize) -> usize
-    requires { ⌜ Before (now slots) end (rank + 1) ⌝ }
-    ensures { λ r. ⌜ r ≡ groupFirst (tiedIn (nonzero (now (slots .entry)))) rank ⌝ }
+// The number of scoring boats before the first boat in the group of the boat in this slot, who has `before` of them before her.
+// A boat without the bit ends the way back: a scoring one is the first of the group, and a retired one stands right before its first.
+fn group_first(slots: &[u64], slot: usize, before: usize) -> usize
+    requires { ⌜ Scores (now slots) slot before ⌝ }
+    ensures { λ r. ⌜ r ≡ groupFirst (tiedIn (nonzero (now (slots .entry)))) before ⌝ }
 {
-    let mut at = end;
-    let mut first = rank + 1;
+    let mut at = slot + 1;
+    let mut first = before + 1;
     while 0 < first {
         at -= 1;
         let last = slots[at];
         if last != 0 {
-            first -= 1;
+            if !store_scoring::is_retired(last) {
+                first -= 1;
+            }
             if !is_tied(last) {
                 return first;
             }
@@ -41,29 +45,31 @@ fn group_first(slots: &[u64], end: usize, rank: usize) -> usize
     0
 }
 
-// The rank behind the last boat in the group of the rank; the entries behind it stand in the slots from `start` on, and there are n entries.
-fn group_end(slots: &[u64], start: usize, rank: usize, n: usize) -> usize
-    requires below { ⌜ rank < n ⌝ }
-    requires number { ⌜ n ≡ length (nonzero (now slots)) ⌝ }
-    requires rest { ⌜ drop (rank + 1) (nonzero (now slots)) ≡ nonzero (drop start (now slots)) ⌝ }
-    ensures { λ r. ⌜ r ≡ groupEnd (tiedIn (nonzero (now (slots .entry)))) n rank ⌝ }
+// The number of scoring boats up to the last one in the group of the boat in this slot, who has `before` of them before her; there are
+// `scoring` of them in all. A boat without the bit, scoring or retired, ends the way on.
+fn group_end(slots: &[u64], slot: usize, before: usize, scoring: usize) -> usize
+    requires boat { ⌜ Scores (now slots) slot before ⌝ }
+    requires number { ⌜ scoring ≡ tally (nonzero (now slots)) ⌝ }
+    ensures { λ r. ⌜ r ≡ groupEnd (tiedIn (nonzero (now (slots .entry)))) scoring before ⌝ }
 {
-    let mut at = start;
-    let mut end = rank + 1;
-    while end < n {
+    let mut at = slot + 1;
+    let mut end = before + 1;
+    while end < scoring {
         let next = slots[at];
         at += 1;
         if next != 0 {
             if !is_tied(next) {
                 return end;
             }
-            end += 1;
+            if !store_scoring::is_retired(next) {
+                end += 1;
+            }
         }
     }
     end
 }
 
-// What the boats of the ranks from `first` up to, not including, `end` share as one group.
+// What the scoring boats from number `first` up to, not including, number `end` share as one group.
 fn shared(first: usize, end: usize) -> Placing
     requires some { ⌜ first < end ⌝ }
     requires few { ⌜ end < 2 ^ 30 ⌝ }
@@ -78,15 +84,25 @@ fn shared(first: usize, end: usize) -> Placing
     }
 }
 
-// The place, the sum of places and the number of boats in the tied group of the rank, which is that of the last entry in the slots before
-// `at`; there are n entries. No slot is looked at but those from the first boat of the group up to the boat behind it.
-pub fn placing_at(slots: &[u64], at: usize, rank: usize, n: usize) -> Placing
-    requires before { ⌜ Before (now slots) at (rank + 1) ⌝ }
-    requires number { ⌜ n ≡ length (nonzero (now slots)) ⌝ }
-    requires few { ⌜ n < 2 ^ 30 ⌝ }
-    ensures { λ r. ⌜ r ≡ placingIn (nonzero (now (slots .entry))) rank ⌝ }
+// The place, the sum of places and the number of boats in the tied group of the boat in this slot, who has `before` scoring boats before her;
+// there are `scoring` of them in all. No slot is looked at but hers, those back to the first boat of the group and right before it, and those
+// on to the boat behind the group.
+pub fn placing_at(slots: &[u64], slot: usize, before: usize, scoring: usize) -> Placing
+    requires boat { ⌜ InSlot (now slots) slot ⌝ }
+    requires ahead { ⌜ before ≡ tally (nonzero (take slot (now slots))) ⌝ }
+    requires number { ⌜ scoring ≡ tally (nonzero (now slots)) ⌝ }
+    requires few { ⌜ scoring < 2 ^ 30 ⌝ }
+    ensures { λ r. ⌜ r ≡ placingIn (nonzero (now (slots .entry))) (length (nonzero (take slot (now (slots .entry))))) ⌝ }
 {
-    let first = group_first(slots, at, rank);
-    let end = group_end(slots, at, rank, n);
+    let entry = slots[slot];
+    if store_scoring::is_retired(entry) {
+        return Placing {
+            place: 0,
+            sum: 0,
+            boats: 1,
+        };
+    }
+    let first = group_first(slots, slot, before);
+    let end = group_end(slots, slot, before, scoring);
     shared(first, end)
 }

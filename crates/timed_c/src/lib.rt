@@ -13,17 +13,18 @@ ghost use Rattle.call_timed.specs.Timed.{timed, timedStoreOf};
 pub extern "C" fn timed_clear(
     slots: &mut [u64],
     counts: &mut [u16],
+    tallies: &mut [u16],
     balance: &mut [u64],
     answer: &mut [u64],
 ) -> usize
-    ensures { λ r. ⌜ record { number = r; store = timedStoreOf (now (slots .exit)) (now (counts .exit)) (now (balance .exit)); output = []; answer = now (answer .exit) }
-        ≡ handed (timed clubs) 2 clear [] (timedStoreOf (now (slots .entry)) (now (counts .entry)) (now (balance .entry))) [] (now (answer .entry)) ⌝ }
+    ensures { λ r. ⌜ record { number = r; store = timedStoreOf (now (slots .exit)) (now (counts .exit)) (now (tallies .exit)) (now (balance .exit)); output = []; answer = now (answer .exit) }
+        ≡ handed (timed clubs) 2 clear [] (timedStoreOf (now (slots .entry)) (now (counts .entry)) (now (tallies .entry)) (now (balance .entry))) [] (now (answer .entry)) ⌝ }
 {
     if answer.len() < 2 {
         return 255;
     }
     call_handed::hand(
-        timed_calls::clear(slots, counts, balance).returned(),
+        timed_calls::clear(slots, counts, tallies, balance).returned(),
         2,
         answer,
     )
@@ -34,19 +35,20 @@ pub extern "C" fn timed_clear(
 pub extern "C" fn timed_insert(
     slots: &mut [u64],
     counts: &mut [u16],
+    tallies: &mut [u16],
     balance: &mut [u64],
     entry: u64,
     tape: &[u32],
     answer: &mut [u64],
 ) -> usize
-    ensures { λ r. ⌜ record { number = r; store = timedStoreOf (now (slots .exit)) (now (counts .exit)) (now (balance .exit)); output = []; answer = now (answer .exit) }
-        ≡ handed (timed clubs) 2 (call.insert entry) (now (tape .entry)) (timedStoreOf (now (slots .entry)) (now (counts .entry)) (now (balance .entry))) [] (now (answer .entry)) ⌝ }
+    ensures { λ r. ⌜ record { number = r; store = timedStoreOf (now (slots .exit)) (now (counts .exit)) (now (tallies .exit)) (now (balance .exit)); output = []; answer = now (answer .exit) }
+        ≡ handed (timed clubs) 2 (call.insert entry) (now (tape .entry)) (timedStoreOf (now (slots .entry)) (now (counts .entry)) (now (tallies .entry)) (now (balance .entry))) [] (now (answer .entry)) ⌝ }
 {
     if answer.len() < 2 {
         return 255;
     }
     call_handed::hand(
-        timed_calls::insert(slots, counts, balance, entry, tape).returned(),
+        timed_calls::insert(slots, counts, tallies, balance, entry, tape).returned(),
         2,
         answer,
     )
@@ -57,19 +59,20 @@ pub extern "C" fn timed_insert(
 pub extern "C" fn timed_delete(
     slots: &mut [u64],
     counts: &mut [u16],
+    tallies: &mut [u16],
     balance: &mut [u64],
     rank: usize,
     tape: &[u32],
     answer: &mut [u64],
 ) -> usize
-    ensures { λ r. ⌜ record { number = r; store = timedStoreOf (now (slots .exit)) (now (counts .exit)) (now (balance .exit)); output = []; answer = now (answer .exit) }
-        ≡ handed (timed clubs) 2 (call.delete rank) (now (tape .entry)) (timedStoreOf (now (slots .entry)) (now (counts .entry)) (now (balance .entry))) [] (now (answer .entry)) ⌝ }
+    ensures { λ r. ⌜ record { number = r; store = timedStoreOf (now (slots .exit)) (now (counts .exit)) (now (tallies .exit)) (now (balance .exit)); output = []; answer = now (answer .exit) }
+        ≡ handed (timed clubs) 2 (call.delete rank) (now (tape .entry)) (timedStoreOf (now (slots .entry)) (now (counts .entry)) (now (tallies .entry)) (now (balance .entry))) [] (now (answer .entry)) ⌝ }
 {
     if answer.len() < 2 {
         return 255;
     }
     call_handed::hand(
-        timed_calls::delete(slots, counts, balance, rank, tape).returned(),
+        timed_calls::delete(slots, counts, tallies, balance, rank, tape).returned(),
         2,
         answer,
     )
@@ -80,18 +83,19 @@ pub extern "C" fn timed_delete(
 pub extern "C" fn timed_find(
     slots: &[u64],
     counts: &[u16],
+    tallies: &[u16],
     balance: &[u64],
     entry: u64,
     answer: &mut [u64],
 ) -> usize
-    ensures { λ r. ⌜ record { number = r; store = timedStoreOf (now (slots .entry)) (now (counts .entry)) (now (balance .entry)); output = []; answer = now (answer .exit) }
-        ≡ handed (timed clubs) 2 (call.find entry) [] (timedStoreOf (now (slots .entry)) (now (counts .entry)) (now (balance .entry))) [] (now (answer .entry)) ⌝ }
+    ensures { λ r. ⌜ record { number = r; store = timedStoreOf (now (slots .entry)) (now (counts .entry)) (now (tallies .entry)) (now (balance .entry)); output = []; answer = now (answer .exit) }
+        ≡ handed (timed clubs) 2 (call.find entry) [] (timedStoreOf (now (slots .entry)) (now (counts .entry)) (now (tallies .entry)) (now (balance .entry))) [] (now (answer .entry)) ⌝ }
 {
     if answer.len() < 2 {
         return 255;
     }
     call_handed::hand(
-        timed_calls::find(slots, counts, balance, entry).returned(),
+        timed_calls::find(slots, counts, tallies, balance, entry).returned(),
         2,
         answer,
     )
@@ -102,42 +106,44 @@ pub extern "C" fn timed_find(
 pub extern "C" fn timed_read(
     slots: &[u64],
     counts: &[u16],
+    tallies: &[u16],
     balance: &[u64],
     first: usize,
     last: usize,
     output: &mut [u64],
     answer: &mut [u64],
 ) -> usize
-    ensures { λ r. ⌜ record { number = r; store = timedStoreOf (now (slots .entry)) (now (counts .entry)) (now (balance .entry)); output = now (output .exit); answer = now (answer .exit) }
-        ≡ handed (timed clubs) 2 (call.read first last (length (now (output .entry)))) [] (timedStoreOf (now (slots .entry)) (now (counts .entry)) (now (balance .entry))) (now (output .entry)) (now (answer .entry)) ⌝ }
+    ensures { λ r. ⌜ record { number = r; store = timedStoreOf (now (slots .entry)) (now (counts .entry)) (now (tallies .entry)) (now (balance .entry)); output = now (output .exit); answer = now (answer .exit) }
+        ≡ handed (timed clubs) 2 (call.read first last (length (now (output .entry)))) [] (timedStoreOf (now (slots .entry)) (now (counts .entry)) (now (tallies .entry)) (now (balance .entry))) (now (output .entry)) (now (answer .entry)) ⌝ }
 {
     if answer.len() < 2 {
         return 255;
     }
     call_handed::hand(
-        timed_calls::read(slots, counts, balance, first, last, output).returned(),
+        timed_calls::read(slots, counts, tallies, balance, first, last, output).returned(),
         2,
         answer,
     )
 }
 
-// The place of the entry at the rank, the sum of the places of her tied group, and the number of its boats.
+// The place of the entry at the rank, the sum of the places of her tied group, and the number of its boats; 0, 0 and 1 for a retired boat.
 #[no_mangle]
 pub extern "C" fn timed_place(
     slots: &[u64],
     counts: &[u16],
+    tallies: &[u16],
     balance: &[u64],
     rank: usize,
     answer: &mut [u64],
 ) -> usize
-    ensures { λ r. ⌜ record { number = r; store = timedStoreOf (now (slots .entry)) (now (counts .entry)) (now (balance .entry)); output = []; answer = now (answer .exit) }
-        ≡ handed (timed clubs) 3 (call.place rank) [] (timedStoreOf (now (slots .entry)) (now (counts .entry)) (now (balance .entry))) [] (now (answer .entry)) ⌝ }
+    ensures { λ r. ⌜ record { number = r; store = timedStoreOf (now (slots .entry)) (now (counts .entry)) (now (tallies .entry)) (now (balance .entry)); output = []; answer = now (answer .exit) }
+        ≡ handed (timed clubs) 3 (call.place rank) [] (timedStoreOf (now (slots .entry)) (now (counts .entry)) (now (tallies .entry)) (now (balance .entry))) [] (now (answer .entry)) ⌝ }
 {
     if answer.len() < 3 {
         return 255;
     }
     call_handed::hand(
-        timed_calls::place(slots, counts, balance, rank).returned(),
+        timed_calls::place(slots, counts, tallies, balance, rank).returned(),
         3,
         answer,
     )
@@ -148,17 +154,18 @@ pub extern "C" fn timed_place(
 pub extern "C" fn timed_check(
     slots: &[u64],
     counts: &[u16],
+    tallies: &[u16],
     balance: &[u64],
     answer: &mut [u64],
 ) -> usize
-    ensures { λ r. ⌜ record { number = r; store = timedStoreOf (now (slots .entry)) (now (counts .entry)) (now (balance .entry)); output = []; answer = now (answer .exit) }
-        ≡ handed (timed clubs) 2 call.check [] (timedStoreOf (now (slots .entry)) (now (counts .entry)) (now (balance .entry))) [] (now (answer .entry)) ⌝ }
+    ensures { λ r. ⌜ record { number = r; store = timedStoreOf (now (slots .entry)) (now (counts .entry)) (now (tallies .entry)) (now (balance .entry)); output = []; answer = now (answer .exit) }
+        ≡ handed (timed clubs) 2 call.check [] (timedStoreOf (now (slots .entry)) (now (counts .entry)) (now (tallies .entry)) (now (balance .entry))) [] (now (answer .entry)) ⌝ }
 {
     if answer.len() < 2 {
         return 255;
     }
     call_handed::hand(
-        timed_calls::check(slots, counts, balance).returned(),
+        timed_calls::check(slots, counts, tallies, balance).returned(),
         2,
         answer,
     )

@@ -22,48 +22,45 @@ use Rattle.call_outcomes.specs.Kind.{change}
 use Rattle.call_outcomes.specs.Causes.{firstOf, Decision, refuse, accept, storeDecision, lookedAt, argumentCause, byArguments, decision}
 use Rattle.call_outcomes.specs.Outcome.{refused, outcome}
 use Rattle.call_outcomes.specs.DecisionLaws.{arguments-some, accepted-by, outcome-refused, question-outcome}
-use Rattle.call_outcomes.specs.Plain.{plainChange, changeCause, placeOf, questionCause, plain, changing, storeOf}
+use Rattle.call_outcomes.specs.PlainCalls.{plainChange, changeCause, placeOf, questionCause, changing}
 use Rattle.call_outcomes.specs.Clubs.{clubs}
-use Rattle.call_outcomes.specs.ClubsLaws.{clubs-roomy}
 use Rattle.call_open.specs.declared.Opened.{Opened}
 use Rattle.call_open.specs.declared.Opened.the-variants as opened
-use Rattle.call_open.specs.Opening.{openedAs, admitted}
+use Rattle.call_open.specs.Opening.{openedAs, OpenedStore, admitted}
 use Rattle.call_open.specs.AdmittedLaws.{change-opened}
-use Rattle.call_change.specs.SheetChange.{ChangeReady}
-use Rattle.call_timed.specs.Timed.{TimedStore, timedView, TimedChange, insertEntry, deleteRank, plainly, timedChangeCause, findEntry, timedQuestionCause, foundAt, timedReply, timedWritten, timed, TimedCall, insert, delete, find, timedStoreOf, timedOutcomeOf}
-use Rattle.call_timed.specs.Third.{withThird}
-use Rattle.call_timed.specs.ThirdLaws.{plain-decided, timed-change}
-use Rattle.timed_open.specs.TimedOpening.{OpenedTimed}
+use Rattle.call_timed.specs.Timed.{TimedStore, timedView, TimedChange, insertEntry, deleteRank, plainly, timedChangeCause, findEntry, timedQuestionCause, foundAt, timedReply, timedWritten, timed, TimedCall, ranked, insert, delete, find, timedStoreOf, timedNumbers, timedOutcomeOf}
+use Rattle.call_timed.specs.RankedLaws.{ranked-decided, timed-change}
+use Rattle.timed_change.specs.RankedReady.{RankedReady}
 use Rattle.timed_calls.specs.SheetLaws.{list-is}
 
 -- ---- a store that a cause refuses
 
-module _ (slots counts balance : List ℕ) where
+module _ (slots counts tallies balance : List ℕ) where
   abbrev store : TimedStore
-  store = timedStoreOf slots counts balance
+  store = timedStoreOf slots counts tallies balance
 
   decided-refused : (call : TimedCall) (tape : List ℕ) (cause : Cause) → decision (timed clubs) call store ≡ refuse cause
-      → timedOutcomeOf (Refused cause) slots counts balance [] ≡ outcome (timed clubs) call tape store []
+      → timedOutcomeOf (Refused cause) slots counts tallies balance [] ≡ outcome (timed clubs) call tape store []
   unfolding refused
   decided-refused call tape cause e = sym (outcome-refused (timed clubs) call store tape [] cause e)
 
   -- A call that looks at the contents.
   pub store-refused : (call : TimedCall) → lookedAt (timed clubs) call store ≡ storeDecision (timedView clubs) store → (tape : List ℕ)
       → {found : Opened} {cause : Cause} → found ≡ openedAs (storeDecision (timedView clubs) store) → found ≡ opened.Refused cause
-      → timedOutcomeOf (Refused cause) slots counts balance [] ≡ outcome (timed clubs) call tape store []
+      → timedOutcomeOf (Refused cause) slots counts tallies balance [] ≡ outcome (timed clubs) call tape store []
   unfolding openedAs decision byArguments
   store-refused call looks tape {cause = cause} is e = go (storeDecision (timedView clubs) store) refl (sym is ∙ e)
     where
       go : (d : Decision) → storeDecision (timedView clubs) store ≡ d → openedAs d ≡ opened.Refused cause
-          → timedOutcomeOf (Refused cause) slots counts balance [] ≡ outcome (timed clubs) call tape store []
+          → timedOutcomeOf (Refused cause) slots counts tallies balance [] ≡ outcome (timed clubs) call tape store []
       go (refuse k) found h = let same : k ≡ cause = cc in decided-refused call tape cause (rw (looks, found, same))
       go (accept c) found h = let z : _≡_ {A = ℕ} 0 1 = cc in absurd (omega arith)
 
 -- ---- a timed sheet
 
-module _ {slots counts balance work : List ℕ} {n m : ℕ} (w : OpenedTimed clubs (timedStoreOf slots counts balance) n m work) where
+module _ {slots counts tallies balance work : List ℕ} {n m : ℕ} (w : OpenedStore (timedView clubs) timedNumbers (timedStoreOf slots counts tallies balance) n m work) where
   abbrev sheet : TimedStore
-  sheet = timedStoreOf slots counts balance
+  sheet = timedStoreOf slots counts tallies balance
 
   abbrev c : Contents
   c = w .contents
@@ -71,38 +68,38 @@ module _ {slots counts balance work : List ℕ} {n m : ℕ} (w : OpenedTimed clu
   -- A call that a cause of its arguments refuses.
   arguments-refused : (call : TimedCall) → lookedAt (timed clubs) call sheet ≡ storeDecision (timedView clubs) sheet → (tape : List ℕ) (cause : Cause)
       → argumentCause (timed clubs) call (c .list) ≡ some cause
-      → timedOutcomeOf (Refused cause) slots counts balance [] ≡ outcome (timed clubs) call tape sheet []
+      → timedOutcomeOf (Refused cause) slots counts tallies balance [] ≡ outcome (timed clubs) call tape sheet []
   unfolding decision
   arguments-refused call looks tape cause e =
-      decided-refused slots counts balance call tape cause (rw (looks, w .decided) (arguments-some (argumentCause (timed clubs) call) c cause e))
+      decided-refused slots counts tallies balance call tape cause (rw (looks, w .decided) (arguments-some (argumentCause (timed clubs) call) c cause e))
 
-  -- A change that none refuses is the change of the plain sheet.
+  -- A change that none refuses is a change at a rank.
   module _ (tc : TimedChange) (by : Change) (e : ℕ) (same : plainly tc (c .list) ≡ plainChange by e)
       (decided : decision (timed clubs) (change tc) sheet ≡ accept c) where
-    pub change-ready : ChangeReady clubs by e n m (storeOf slots counts) work
+    pub change-ready : RankedReady by e n m sheet work
     change-ready = record {
       admitted = record {
         contents = c;
-        decided = rw same at (plain-decided clubs sheet tc c decided);
+        decided = rw same at (ranked-decided clubs sheet tc c decided);
         count = w .count;
         size = w .size;
       };
       copied = w .copied;
     }
 
-    pub change-done : (tape : List ℕ) {answer : Answer} {slots′ counts′ balance′ : List ℕ}
-        → timedOutcomeOf answer slots′ counts′ balance′ [] ≡ withThird balance (outcome (plain clubs) (changing by e) tape (storeOf slots counts) [])
-        → timedOutcomeOf answer slots′ counts′ balance′ [] ≡ outcome (timed clubs) (change tc) tape sheet []
-    change-done tape is = is ∙ sym (rw same at (timed-change clubs sheet tc c decided clubs-roomy tape))
+    pub change-done : (tape : List ℕ) {answer : Answer} {slots′ counts′ tallies′ balance′ : List ℕ}
+        → timedOutcomeOf answer slots′ counts′ tallies′ balance′ [] ≡ outcome (ranked clubs) (changing by e) tape sheet []
+        → timedOutcomeOf answer slots′ counts′ tallies′ balance′ [] ≡ outcome (timed clubs) (change tc) tape sheet []
+    change-done tape is = is ∙ sym (rw same at (timed-change clubs sheet tc c decided tape))
 
   -- ---- find and insert
 
   module _ (e : ℕ) where
-    pub find-zero : key e ≡ 0 → timedOutcomeOf (Refused EntryZero) slots counts balance [] ≡ outcome (timed clubs) (find e) [] sheet []
+    pub find-zero : key e ≡ 0 → timedOutcomeOf (Refused EntryZero) slots counts tallies balance [] ≡ outcome (timed clubs) (find e) [] sheet []
     unfolding lookedAt argumentCause timedQuestionCause firstOf
     find-zero z = arguments-refused (find e) refl [] EntryZero (rw (eq-eqb (key e) 0 z))
 
-    pub insert-zero : (tape : List ℕ) → key e ≡ 0 → timedOutcomeOf (Refused EntryZero) slots counts balance [] ≡ outcome (timed clubs) (insert e) tape sheet []
+    pub insert-zero : (tape : List ℕ) → key e ≡ 0 → timedOutcomeOf (Refused EntryZero) slots counts tallies balance [] ≡ outcome (timed clubs) (insert e) tape sheet []
     unfolding lookedAt argumentCause timedChangeCause firstOf
     insert-zero tape z = arguments-refused (insert e) refl tape EntryZero (rw (eq-eqb (key e) 0 z))
 
@@ -120,26 +117,26 @@ module _ {slots counts balance work : List ℕ} {n m : ℕ} (w : OpenedTimed clu
       find-decided = accepted-by (timed clubs) (find e) sheet c (w .decided) (rw (ne-eqb (key e) 0 some-key))
 
       pub find-present : sought .present ≡ true
-          → timedOutcomeOf (Present (sought .rank)) slots counts balance [] ≡ outcome (timed clubs) (find e) [] sheet []
+          → timedOutcomeOf (Present (sought .rank)) slots counts tallies balance [] ≡ outcome (timed clubs) (find e) [] sheet []
       unfolding timedReply timedWritten foundAt
       find-present there =
           sym (question-outcome (timed clubs) (findEntry e) [] sheet [] c find-decided ∙ rw (← present-is, there, ← rank-is))
 
       pub find-absent : sought .present ≡ false
-          → timedOutcomeOf (Absent (sought .rank)) slots counts balance [] ≡ outcome (timed clubs) (find e) [] sheet []
+          → timedOutcomeOf (Absent (sought .rank)) slots counts tallies balance [] ≡ outcome (timed clubs) (find e) [] sheet []
       unfolding timedReply timedWritten foundAt
       find-absent none-there =
           sym (question-outcome (timed clubs) (findEntry e) [] sheet [] c find-decided ∙ rw (← present-is, none-there, ← rank-is))
 
       pub insert-present : (tape : List ℕ) → sought .present ≡ true
-          → timedOutcomeOf (Refused EntryPresent) slots counts balance [] ≡ outcome (timed clubs) (insert e) tape sheet []
+          → timedOutcomeOf (Refused EntryPresent) slots counts tallies balance [] ≡ outcome (timed clubs) (insert e) tape sheet []
       unfolding lookedAt argumentCause timedChangeCause firstOf
       insert-present tape there =
           arguments-refused (insert e) refl tape EntryPresent (rw (ne-eqb (key e) 0 some-key, ← present-is, there))
 
       module _ (none-there : sought .present ≡ false) where
         pub insert-full : (tape : List ℕ) → 1024 ≤ n
-            → timedOutcomeOf (Refused Full) slots counts balance [] ≡ outcome (timed clubs) (insert e) tape sheet []
+            → timedOutcomeOf (Refused Full) slots counts tallies balance [] ≡ outcome (timed clubs) (insert e) tape sheet []
         unfolding lookedAt argumentCause timedChangeCause firstOf
         insert-full tape full =
             arguments-refused (insert e) refl tape Full

@@ -9,37 +9,31 @@ use Rattle.store_layout.specs.Decode.{Contents, numbered}
 use Rattle.store_layout.specs.SheetLaws.{decode-sound, numbered-layOut}
 use Rattle.store_search.specs.Sought.{SearchReady}
 use Rattle.call_outcomes.specs.Causes.{accept, storeDecision}
-use Rattle.call_outcomes.specs.Plain.{storeOf}
+use Rattle.call_outcomes.specs.Untallied.{storeOf}
+use Rattle.call_outcomes.specs.Plain.{plainView, plainStoreOf}
 use Rattle.call_outcomes.specs.Clubs.{clubs}
 use Rattle.call_outcomes.specs.ClubsLaws.{clubs-roomy, clubs-ready}
-use Rattle.call_open.specs.Opening.{OpenedSheet}
+use Rattle.call_open.specs.Opening.{plainNumbers, OpenedStore}
 use Rattle.call_questions.specs.StartLaws.{decoded-list}
-use Rattle.call_timed.specs.Timed.{timedView, timedStoreOf}
-use Rattle.call_timed.specs.ThirdLaws.{HoldsTimed, timed-holds}
-use Rattle.timed_open.specs.TimedOpening.{OpenedTimed}
+use Rattle.call_timed.specs.Timed.{timedView, timedStoreOf, timedNumbers}
+use Rattle.call_timed.specs.RankedLaws.{HoldsTimed, timed-holds}
 
 -- The list of a timed store that decides nothing is what stands in its slots.
-pub timed-list : (slots counts balance : List ℕ) (c : Contents) → storeDecision (timedView clubs) (timedStoreOf slots counts balance) ≡ accept c
+pub timed-list : (slots counts tallies balance : List ℕ) (c : Contents) → storeDecision (timedView clubs) (timedStoreOf slots counts tallies balance) ≡ accept c
     → c .list ≡ nonzero slots
-timed-list slots counts balance c h =
-    decoded-list clubs (storeOf slots counts) c (timed-holds clubs (timedStoreOf slots counts balance) c h .decoded)
+timed-list slots counts tallies balance c h =
+    decoded-list clubs (storeOf slots counts) c (timed-holds clubs (timedStoreOf slots counts tallies balance) c h .decoded)
 
-module _ {slots counts balance work : List ℕ} {n m : ℕ} (w : OpenedTimed clubs (timedStoreOf slots counts balance) n m work) where
-  pub held : HoldsTimed clubs (timedStoreOf slots counts balance) (w .contents)
+module _ {slots counts tallies balance work : List ℕ} {n m : ℕ} (w : OpenedStore (timedView clubs) timedNumbers (timedStoreOf slots counts tallies balance) n m work) where
+  pub held : HoldsTimed clubs (timedStoreOf slots counts tallies balance) (w .contents)
   held = timed-holds clubs _ (w .contents) (w .decided)
 
-  pub plain-sheet : OpenedSheet clubs (storeOf slots counts) n m work
-  plain-sheet = record {
-    contents = w .contents;
-    decided = held .plain;
-    decoded = held .decoded;
-    count = w .count;
-    size = w .size;
-    copied = w .copied;
-  }
+  -- The plain sheet in it.
+  abbrev pub plain-store : OpenedStore (plainView clubs) plainNumbers (plainStoreOf slots counts tallies) n m work
+  plain-store = record { contents = w .contents; decided = held .plain; count = w .count; size = w .size; copied = w .copied }
 
   pub list-is : w .contents .list ≡ nonzero slots
-  list-is = timed-list slots counts balance (w .contents) (w .decided)
+  list-is = timed-list slots counts tallies balance (w .contents) (w .decided)
 
   laid : IsContents clubs (w .contents .list) (w .contents .shape) × (storeOf slots counts ≡ layOut clubs (w .contents .list) (w .contents .shape))
   laid = decode-sound clubs (storeOf slots counts) (w .contents) (held .decoded)

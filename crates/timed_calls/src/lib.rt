@@ -1,4 +1,4 @@
-// The clubs' timed sheet: seven calls on a store of three lent slices.
+// The clubs' timed sheet: seven calls on a store of four lent slices.
 ghost use mathlib.Core.Path.{_≡_};
 ghost use mathlib.Core.List.{[]};
 ghost use lib.ListN.{length};
@@ -14,9 +14,14 @@ use tree_rules::Change;
 use tree_sizes::Size;
 
 // Makes any contents the empty sheet.
-pub fn clear(slots: &mut [u64], counts: &mut [u16], balance: &mut [u64]) -> Answer
-    ensures { λ r. ⌜ timedOutcomeOf r (now (slots .exit)) (now (counts .exit)) (now (balance .exit)) []
-        ≡ outcome (timed clubs) clear [] (timedStoreOf (now (slots .entry)) (now (counts .entry)) (now (balance .entry))) [] ⌝ }
+pub fn clear(
+    slots: &mut [u64],
+    counts: &mut [u16],
+    tallies: &mut [u16],
+    balance: &mut [u64],
+) -> Answer
+    ensures { λ r. ⌜ timedOutcomeOf r (now (slots .exit)) (now (counts .exit)) (now (tallies .exit)) (now (balance .exit)) []
+        ≡ outcome (timed clubs) clear [] (timedStoreOf (now (slots .entry)) (now (counts .entry)) (now (tallies .entry)) (now (balance .entry))) [] ⌝ }
 {
     if slots.len() != 4224 {
         return Answer::Refused(Cause::Lengths);
@@ -24,11 +29,15 @@ pub fn clear(slots: &mut [u64], counts: &mut [u16], balance: &mut [u64]) -> Answ
     if counts.len() != 256 {
         return Answer::Refused(Cause::Lengths);
     }
+    if tallies.len() != 256 {
+        return Answer::Refused(Cause::Lengths);
+    }
     if balance.len() != 256 {
         return Answer::Refused(Cause::Lengths);
     }
     store_slices::zero_slots(slots, 0, 4224);
     store_counts::zero_counts(counts);
+    store_counts::zero_counts(tallies);
     store_slices::zero_slots(balance, 0, 256);
     Answer::Cleared
 }
@@ -37,15 +46,16 @@ pub fn clear(slots: &mut [u64], counts: &mut [u16], balance: &mut [u64]) -> Answ
 pub fn insert(
     slots: &mut [u64],
     counts: &mut [u16],
+    tallies: &mut [u16],
     balance: &mut [u64],
     entry: u64,
     tape: &[u32],
 ) -> Answer
-    ensures { λ r. ⌜ timedOutcomeOf r (now (slots .exit)) (now (counts .exit)) (now (balance .exit)) []
-        ≡ outcome (timed clubs) (call.insert entry) (now (tape .entry)) (timedStoreOf (now (slots .entry)) (now (counts .entry)) (now (balance .entry))) [] ⌝ }
+    ensures { λ r. ⌜ timedOutcomeOf r (now (slots .exit)) (now (counts .exit)) (now (tallies .exit)) (now (balance .exit)) []
+        ≡ outcome (timed clubs) (call.insert entry) (now (tape .entry)) (timedStoreOf (now (slots .entry)) (now (counts .entry)) (now (tallies .entry)) (now (balance .entry))) [] ⌝ }
 {
     let mut work = [0u32; 256];
-    match timed_open::examine(slots, counts, balance, &mut work) {
+    match timed_open::examine(slots, counts, tallies, balance, &mut work) {
         Opened::Sheet { n, m } => {
             if store_keys::key(entry) == 0 {
                 return Answer::Refused(Cause::EntryZero);
@@ -58,7 +68,18 @@ pub fn insert(
                 return Answer::Refused(Cause::Full);
             }
             let change = Change::Insert(sought.rank);
-            timed_change::change(slots, counts, balance, &mut work, n, m, change, entry, tape)
+            timed_change::change(
+                slots,
+                counts,
+                tallies,
+                balance,
+                &mut work,
+                n,
+                m,
+                change,
+                entry,
+                tape,
+            )
         }
         Opened::Refused(cause) => Answer::Refused(cause),
     }
@@ -68,31 +89,43 @@ pub fn insert(
 pub fn delete(
     slots: &mut [u64],
     counts: &mut [u16],
+    tallies: &mut [u16],
     balance: &mut [u64],
     rank: usize,
     tape: &[u32],
 ) -> Answer
-    ensures { λ r. ⌜ timedOutcomeOf r (now (slots .exit)) (now (counts .exit)) (now (balance .exit)) []
-        ≡ outcome (timed clubs) (call.delete rank) (now (tape .entry)) (timedStoreOf (now (slots .entry)) (now (counts .entry)) (now (balance .entry))) [] ⌝ }
+    ensures { λ r. ⌜ timedOutcomeOf r (now (slots .exit)) (now (counts .exit)) (now (tallies .exit)) (now (balance .exit)) []
+        ≡ outcome (timed clubs) (call.delete rank) (now (tape .entry)) (timedStoreOf (now (slots .entry)) (now (counts .entry)) (now (tallies .entry)) (now (balance .entry))) [] ⌝ }
 {
     let mut work = [0u32; 256];
-    let opened = timed_open::examine(slots, counts, balance, &mut work);
+    let opened = timed_open::examine(slots, counts, tallies, balance, &mut work);
     match call_open::admit_rank(opened, rank) {
         Opened::Sheet { n, m } => {
             let change = Change::Delete(rank);
-            timed_change::change(slots, counts, balance, &mut work, n, m, change, 0, tape)
+            timed_change::change(
+                slots,
+                counts,
+                tallies,
+                balance,
+                &mut work,
+                n,
+                m,
+                change,
+                0,
+                tape,
+            )
         }
         Opened::Refused(cause) => Answer::Refused(cause),
     }
 }
 
 // The rank of the entry, or that it is not there and the rank at which it would stand.
-pub fn find(slots: &[u64], counts: &[u16], balance: &[u64], entry: u64) -> Answer
-    ensures { λ r. ⌜ timedOutcomeOf r (now (slots .entry)) (now (counts .entry)) (now (balance .entry)) []
-        ≡ outcome (timed clubs) (call.find entry) [] (timedStoreOf (now (slots .entry)) (now (counts .entry)) (now (balance .entry))) [] ⌝ }
+pub fn find(slots: &[u64], counts: &[u16], tallies: &[u16], balance: &[u64], entry: u64) -> Answer
+    ensures { λ r. ⌜ timedOutcomeOf r (now (slots .entry)) (now (counts .entry)) (now (tallies .entry)) (now (balance .entry)) []
+        ≡ outcome (timed clubs) (call.find entry) [] (timedStoreOf (now (slots .entry)) (now (counts .entry)) (now (tallies .entry)) (now (balance .entry))) [] ⌝ }
 {
     let mut work = [0u32; 256];
-    match timed_open::examine(slots, counts, balance, &mut work) {
+    match timed_open::examine(slots, counts, tallies, balance, &mut work) {
         Opened::Sheet { n: _, m } => {
             if store_keys::key(entry) == 0 {
                 return Answer::Refused(Cause::EntryZero);
@@ -111,36 +144,38 @@ pub fn find(slots: &[u64], counts: &[u16], balance: &[u64], entry: u64) -> Answe
 pub fn read(
     slots: &[u64],
     counts: &[u16],
+    tallies: &[u16],
     balance: &[u64],
     first: usize,
     last: usize,
     output: &mut [u64],
 ) -> Answer
-    ensures { λ r. ⌜ timedOutcomeOf r (now (slots .entry)) (now (counts .entry)) (now (balance .entry)) (now (output .exit))
+    ensures { λ r. ⌜ timedOutcomeOf r (now (slots .entry)) (now (counts .entry)) (now (tallies .entry)) (now (balance .entry)) (now (output .exit))
         ≡ outcome (timed clubs) (call.read first last (length (now (output .entry)))) []
-        (timedStoreOf (now (slots .entry)) (now (counts .entry)) (now (balance .entry))) (now (output .entry)) ⌝ }
+        (timedStoreOf (now (slots .entry)) (now (counts .entry)) (now (tallies .entry)) (now (balance .entry))) (now (output .entry)) ⌝ }
 {
     let mut work = [0u32; 256];
-    let opened = timed_open::examine(slots, counts, balance, &mut work);
+    let opened = timed_open::examine(slots, counts, tallies, balance, &mut work);
     call_questions::read(opened, slots, &work, first, last, output)
 }
 
-// The place of the entry at the rank: that of her tied group, the sum of its places and the number of its boats.
-pub fn place(slots: &[u64], counts: &[u16], balance: &[u64], rank: usize) -> Answer
-    ensures { λ r. ⌜ timedOutcomeOf r (now (slots .entry)) (now (counts .entry)) (now (balance .entry)) []
-        ≡ outcome (timed clubs) (call.place rank) [] (timedStoreOf (now (slots .entry)) (now (counts .entry)) (now (balance .entry))) [] ⌝ }
+// The place of the entry at the rank: that of her tied group, the sum of its places and the number of its boats; a retired boat has none.
+pub fn place(slots: &[u64], counts: &[u16], tallies: &[u16], balance: &[u64], rank: usize) -> Answer
+    ensures { λ r. ⌜ timedOutcomeOf r (now (slots .entry)) (now (counts .entry)) (now (tallies .entry)) (now (balance .entry)) []
+        ≡ outcome (timed clubs) (call.place rank) [] (timedStoreOf (now (slots .entry)) (now (counts .entry)) (now (tallies .entry)) (now (balance .entry))) [] ⌝ }
 {
     let mut work = [0u32; 256];
-    let opened = timed_open::examine(slots, counts, balance, &mut work);
-    call_questions::place(opened, slots, &work, rank)
+    let opened = timed_open::examine(slots, counts, tallies, balance, &mut work);
+    let mut numbers = [0u32; 256];
+    call_questions::place(opened, slots, &work, tallies, &mut numbers, rank)
 }
 
 // The number of entries of a sheet.
-pub fn check(slots: &[u64], counts: &[u16], balance: &[u64]) -> Answer
-    ensures { λ r. ⌜ timedOutcomeOf r (now (slots .entry)) (now (counts .entry)) (now (balance .entry)) []
-        ≡ outcome (timed clubs) call.check [] (timedStoreOf (now (slots .entry)) (now (counts .entry)) (now (balance .entry))) [] ⌝ }
+pub fn check(slots: &[u64], counts: &[u16], tallies: &[u16], balance: &[u64]) -> Answer
+    ensures { λ r. ⌜ timedOutcomeOf r (now (slots .entry)) (now (counts .entry)) (now (tallies .entry)) (now (balance .entry)) []
+        ≡ outcome (timed clubs) call.check [] (timedStoreOf (now (slots .entry)) (now (counts .entry)) (now (tallies .entry)) (now (balance .entry))) [] ⌝ }
 {
     let mut work = [0u32; 256];
-    let opened = timed_open::examine(slots, counts, balance, &mut work);
+    let opened = timed_open::examine(slots, counts, tallies, balance, &mut work);
     call_questions::check(opened)
 }

@@ -1,2 +1,3 @@
--- A change of the clubs' timed sheet.
+-- A change of a timed sheet: what it is given, then the laws.
+pub mod RankedReady
 pub mod ChangeLaws

@@ -15,7 +15,7 @@ use Rattle.call_outcomes.specs.declared.Cause.the-variants.{EntryZero, EntryPre
 use Rattle.call_outcomes.specs.declared.Answer.the-variants.{Refused}
 use Rattle.call_outcomes.specs.Kind.{Lawful, clear, change, ask}
 use Rattle.call_outcomes.specs.Causes.{argumentCause}
-use Rattle.call_outcomes.specs.Plain.{changeCause}
+use Rattle.call_outcomes.specs.PlainCalls.{changeCause}
 use Rattle.call_outcomes.specs.Clubs.{clubs}
 use Rattle.call_outcomes.specs.ClubsLaws.{clubs-roomy}
 use Rattle.call_history.specs.History.{history, listAtEnd, SameTable, Sent, clearing, lastStore, NoneEnds, facesSent, callsOf}
@@ -30,7 +30,7 @@ use Rattle.call_timed.specs.TimedLaws.{timed-right, timed-lawful}
 pub clubs-timed : Lawful (timed clubs)
 clubs-timed = timed-lawful clubs clubs-roomy
 
--- For every two timed histories, on stores of three slices that held anything at all before: every store has the same share in both exactly
+-- For every two timed histories, on stores of four slices that held anything at all before: every store has the same share in both exactly
 -- when both end with the same list.
 pub clause : (calls calls′ : List TimedCall) (store store′ : TimedStore) → TimedLengths clubs store → TimedLengths clubs store′
     → SameTable (timedView clubs) (history (timed clubs) calls store) (history (timed clubs) calls′ store′)
@@ -38,7 +38,7 @@ pub clause : (calls calls′ : List TimedCall) (store store′ : TimedStore) →
 clause calls calls′ store store′ right right′ =
     history-independent (timed clubs) clubs-timed calls calls′ store store′ (timed-right clubs store right) (timed-right clubs store′ right′)
 
--- For every timed history and whatever words the tapes of its calls hold: if no call returns 7, the calls leave exactly the store of three
+-- For every timed history and whatever words the tapes of its calls hold: if no call returns 7, the calls leave exactly the store of four
 -- slices with which the course ends whose faces those words decide.
 pub words : (sent : List (Sent TimedCall)) (store : TimedStore) → NoneEnds (timed clubs) (clearing (timed clubs) ∷ sent) store → (final : TimedStore)
     → Follows (history (timed clubs) (callsOf sent) store) (facesSent (timed clubs) (clearing (timed clubs) ∷ sent) store) final

@@ -3,7 +3,6 @@ use mathlib.Core.Path.{_≡_, refl, _∙_}
 use mathlib.Core.Bool.{Bool, true, false}
 use mathlib.Core.Logic.{_≢_}
 use mathlib.Core.List.{List}
-use mathlib.Core.Option.{Option, some, none}
 use Prim.Native.Nat.{ℕ, _<_}
 use native.Mathlib.Omega.{arith}
 use borrow.Author.Tests.{ne-eqb, lt-leb}
@@ -11,7 +10,7 @@ use lib.ListN.{length, getD}
 use Rattle.base.specs.ListLaws.{every-getD}
 use Rattle.tree_rules.specs.declared.Change.the-variants.{Insert, Delete}
 use Rattle.tree_rules.specs.ChangeList.{changeList}
-use Rattle.store_layout.specs.Decode.{Contents, decode}
+use Rattle.store_layout.specs.Decode.{Contents}
 use Rattle.store_ties.specs.Ties.{placingIn}
 use Rattle.store_keys.specs.Key.{key, rankOf, present}
 use Rattle.store_keys.specs.KeyLaws as keys
@@ -19,20 +18,23 @@ use Rattle.call_outcomes.specs.declared.Cause.the-variants.{NotASheet, NotTimed
 use Rattle.call_outcomes.specs.declared.Answer.the-variants.{Checked, Changed, Present, Refused}
 use Rattle.call_outcomes.specs.Kind.{SheetOf, applied, holds}
 use Rattle.call_outcomes.specs.KindLaws.{decoded-sheet}
-use Rattle.call_outcomes.specs.Causes.{firstOf, refuse, byLengths, byFound, storeDecision, lookedAt, argumentCause, byArguments, decision}
+use Rattle.call_outcomes.specs.Causes.{firstOf, refuse, accept, byFound, storeDecision, lookedAt, argumentCause, byArguments, decision}
 use Rattle.call_outcomes.specs.Outcome.{refused, outcome}
-use Rattle.call_outcomes.specs.DecisionLaws.{outcome-refused}
-use Rattle.call_outcomes.specs.Plain.{placeOf, countOf, questionCause, placed, replyTo, foundBy, plainView, editOf}
+use Rattle.call_outcomes.specs.DecisionLaws.{store-decided, outcome-refused}
+use Rattle.call_outcomes.specs.PlainCalls.{placeOf, countOf, questionCause, placed, replyTo, editOf}
+use Rattle.call_outcomes.specs.Slice.{sliceTest, foundIf, foundWith}
+use Rattle.call_outcomes.specs.SliceLaws.{sheet-refused, sheet-accepted}
+use Rattle.call_outcomes.specs.Plain.{plainView}
+use Rattle.call_outcomes.specs.PlainLaws.{plain-right}
 use Rattle.call_outcomes.specs.Clubs.{clubs}
 use Rattle.call_outcomes.specs.ClubsLaws.{clubs-lawful}
 use Rattle.call_history.specs.Refusals.{refused-by}
 use Rattle.call_history.specs.SingleCalls.{answered-by, changed-by}
-use Rattle.call_history.specs.ClubSheets.{ClubSheet}
-use Rattle.call_timed.specs.Timed.{TimedStore, TimedLengths, timedTest, timedBy, foundTimed, timedView, insertEntry, deleteRank, plainly, findEntry, asPlain, timedQuestionCause, foundAt, timedReply, timedChangeCause, timed, insert, delete, find, place, check}
-use Rattle.call_timed.specs.TimedLaws.{timed-right}
+use Rattle.call_history.specs.ClubSheets.{ClubSheet, no-sheet-decided}
+use Rattle.call_timed.specs.Timed.{balanceSlice, timedView, TimedStore, TimedLengths, insertEntry, deleteRank, plainly, findEntry, asPlain, timedQuestionCause, foundAt, timedReply, timedChangeCause, timed, insert, delete, find, place, check}
 use Rattle.timed_history.specs.Clause.{clubs-timed}
 
--- The store is a timed sheet of the list: some size and balance entries lay out its three slices.
+-- The store is a timed sheet of the list: some size and balance entries lay out its four slices.
 abbrev pub TimedSheet : List ℕ → TimedStore → Type 0
 TimedSheet = SheetOf (timedView clubs)
 
@@ -44,24 +46,21 @@ pub check-sheet : (list : List ℕ) (store : TimedStore) → TimedSheet list sto
 unfolding timedReply timedQuestionCause replyTo questionCause
 check-sheet list store w = answered-by (timed clubs) clubs-timed list store w (asPlain countOf) refl
 
--- A check of a store of the right lengths is refused by cause 2 where slots and counts are a plain sheet of no list; by cause 11 where they
--- are one, and the store is a timed sheet of no list.
+-- A check of a store of the right lengths is refused by cause 2 where slots, counts and tallies are a plain sheet of no list; by cause 11
+-- where they are one, and the store is a timed sheet of no list.
 module _ (store : TimedStore) (right : TimedLengths clubs store) (tape output : List ℕ) where
   pub check-other : ((list : List ℕ) → ClubSheet list (store .sheet) → ⊥) → outcome (timed clubs) check tape store output .answer ≡ Refused NotASheet
-  unfolding decision lookedAt storeDecision byLengths byFound foundTimed foundBy byArguments refused
+  unfolding decision lookedAt byArguments refused
   check-other none-is =
-      rw (outcome-refused (timed clubs) check store tape output NotASheet (rw (timed-right clubs store right) (go (decode clubs (store .sheet)) refl)))
-    where
-      go : (o : Option Contents) → decode clubs (store .sheet) ≡ o
-          → byArguments (argumentCause (timed clubs) check) (byFound (foundTimed clubs (store .balance) (foundBy (decode clubs (store .sheet))))) ≡ refuse NotASheet
-      go none e = rw e
-      go (some c) e = absurd (none-is (c .list) (decoded-sheet (plainView clubs) (clubs-lawful .view) (store .sheet) c (rw e)))
+      let plain = no-sheet-decided (store .sheet) (right .plain) none-is in
+      rw (outcome-refused (timed clubs) check store tape output NotASheet (rw (sheet-refused (plainView clubs) (balanceSlice clubs) store (right .balance) NotASheet plain)))
 
   pub check-untimed : (list : List ℕ) → ClubSheet list (store .sheet) → ((list : List ℕ) → TimedSheet list store → ⊥)
       → outcome (timed clubs) check tape store output .answer ≡ Refused NotTimed
-  unfolding decision lookedAt storeDecision byLengths byFound foundTimed timedBy byArguments refused
+  unfolding decision lookedAt byFound foundWith foundIf byArguments refused
   check-untimed list w none-is =
-      rw (outcome-refused (timed clubs) check store tape output NotTimed (rw (timed-right clubs store right, plain-found) (go (timedTest clubs (store .balance) c) refl)))
+      rw (outcome-refused (timed clubs) check store tape output NotTimed
+      (rw (sheet-accepted (plainView clubs) (balanceSlice clubs) store (right .balance) c plain-decided) (go (sliceTest (balanceSlice clubs) (store .slice) c) refl)))
     where
       c : Contents
       c = record { list = list; shape = w .shape }
@@ -69,8 +68,11 @@ module _ (store : TimedStore) (right : TimedLengths clubs store) (tape output : 
       plain-found : plainView clubs .decode (store .sheet) ≡ holds c
       plain-found = rw (w .laid) (clubs-lawful .view .complete list (w .shape) (w .is-list) (w .is-shape))
 
-      go : (b : Bool) → timedTest clubs (store .balance) c ≡ b
-          → byArguments (argumentCause (timed clubs) check) (byFound (timedBy (timedTest clubs (store .balance) c) c)) ≡ refuse NotTimed
+      plain-decided : storeDecision (plainView clubs) (store .sheet) ≡ accept c
+      plain-decided = store-decided (plainView clubs) (store .sheet) c (plain-right clubs (store .sheet) (right .plain)) plain-found
+
+      go : (b : Bool) → sliceTest (balanceSlice clubs) (store .slice) c ≡ b
+          → byArguments (argumentCause (timed clubs) check) (byFound (foundIf NotTimed (sliceTest (balanceSlice clubs) (store .slice) c) c)) ≡ refuse NotTimed
       go true e = absurd (none-is list (decoded-sheet (timedView clubs) (clubs-timed .view) store c (rw (plain-found, e))))
       go false e = rw e
 
@@ -82,7 +84,7 @@ pub find-sheet : (list : List ℕ) (store : TimedStore) → TimedSheet list stor
 unfolding timedReply timedQuestionCause firstOf
 find-sheet list store w e some-key = answered-by (timed clubs) clubs-timed list store w (findEntry e) (rw (ne-eqb (key e) 0 some-key))
 
--- An entry with the key of the one at a rank is found there, whatever its bit; and an insert of it is refused by cause 10.
+-- An entry with the key of the one at a rank is found there, whatever its bits; and an insert of it is refused by cause 10.
 module _ (list : List ℕ) (store : TimedStore) (w : TimedSheet list store) (r : ℕ) (below : r < length list)
     (e : ℕ) (same : key e ≡ key (getD list r 0)) (tape output : List ℕ) where
   some-key : key e ≢ 0

@@ -1,3 +1,2 @@
--- The look at a timed store: definitions first, then their laws.
-pub mod TimedOpening
+-- The look at a timed store.
 pub mod OpeningLaws

@@ -9,8 +9,8 @@ ghost use Rattle.store_layout.specs.Leaf.{nonzero};
 ghost use Rattle.store_keys.specs.Key.{rises};
 ghost use Rattle.store_balance.specs.BalanceIn.{balanceIn};
 ghost use Rattle.call_outcomes.specs.Clubs.{clubs};
-ghost use Rattle.call_timed.specs.Timed.{timedStoreOf};
-ghost use Rattle.timed_open.specs.TimedOpening.{TimedOpening};
+ghost use Rattle.call_open.specs.Opening.{Opening};
+ghost use Rattle.call_timed.specs.Timed.{timedView, timedStoreOf, timedNumbers};
 use call_open::Opened;
 use call_outcomes::Cause;
 use tree_sizes::Size;
@@ -31,16 +31,23 @@ fn is_timed(size: Size, slots: &[u64], balance: &[u64]) -> bool
     store_balance::is_balance(size, slots, balance, &mut right)
 }
 
-// Looks at a timed store: the lengths are right, slots and counts are a plain sheet, whose counts are copied to the work array by range
+// Looks at a timed store: the lengths are right, slots, counts and tallies are a plain sheet, whose counts are copied to the work array by range
 // number, its entries rise, and the third slice is right; or cause 1, 2 or 11 decides.
-pub fn examine(slots: &[u64], counts: &[u16], balance: &[u64], work: &mut [u32]) -> Opened
+pub fn examine(
+    slots: &[u64],
+    counts: &[u16],
+    tallies: &[u16],
+    balance: &[u64],
+    work: &mut [u32],
+) -> Opened
     requires { ⌜ length (now work) ≡ 256 ⌝ }
-    ensures { λ r. ⌜ TimedOpening clubs (timedStoreOf (now (slots .entry)) (now (counts .entry)) (now (balance .entry))) r (now (work .exit)) ⌝ }
+    ensures { λ r. ⌜ Opening (timedView clubs) timedNumbers
+        (timedStoreOf (now (slots .entry)) (now (counts .entry)) (now (tallies .entry)) (now (balance .entry))) r (now (work .exit)) ⌝ }
 {
     if balance.len() != 256 {
         return Opened::Refused(Cause::Lengths);
     }
-    match sheet_open::examine(slots, counts, work) {
+    match sheet_open::examine(slots, counts, tallies, work) {
         Opened::Sheet { n, m } => {
             if !is_timed(Size { m: m }, slots, balance) {
                 return Opened::Refused(Cause::NotTimed);

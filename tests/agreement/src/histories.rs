@@ -1,8 +1,8 @@
-//! Random histories of calls, with refused calls and conversions of the order of
-//! the counts among them.
+//! Random histories of calls, with refused calls, boats that retire and conversions
+//! of the order of the counts among them.
 
-use crate::{Both, Call, Returned, Store};
-use reference::places::TIED;
+use crate::{stores, Both, Call, Returned, Store};
+use reference::places::{RETIRED, TIED};
 use reference::random::SplitMix64;
 
 /// What a history leads through, by turns: numbers of entries.
@@ -22,29 +22,42 @@ pub fn tape(random: &mut SplitMix64) -> Vec<u32> {
     words
 }
 
-/// Of how many entries in 16 bit 63 is set, in the history of this seed.
-pub fn ties(seed: u64) -> usize {
-    [0, 8, 14, 16][(seed % 4) as usize]
+/// Of how many entries in 16 bit 63 is set, and of how many bit 62.
+#[derive(Clone, Copy, Debug)]
+pub struct Bits {
+    pub tied: usize,
+    pub retired: usize,
 }
 
-/// The entry with bit 63 set for so many in 16, else without it.
-pub fn with_tie(random: &mut SplitMix64, entry: u64, ties: usize) -> u64 {
-    if random.below(16) < ties {
-        entry | TIED
-    } else {
-        entry & !TIED
+impl Bits {
+    pub const NONE: Bits = Bits::new(0, 0);
+    pub const SOME: Bits = Bits::new(8, 4);
+
+    pub const fn new(tied: usize, retired: usize) -> Self {
+        Bits { tied, retired }
+    }
+
+    /// Those of the history of this seed: both occur in all of them.
+    pub fn of_seed(seed: u64) -> Self {
+        [Bits::new(2, 1), Bits::SOME, Bits::new(14, 8), Bits::new(15, 14)][(seed % 4) as usize]
     }
 }
 
-/// An entry, at times zero but for bit 63, often one of a few.
-pub fn entry(random: &mut SplitMix64, ties: usize) -> u64 {
+/// The entry with each of the bits 63 and 62 set so often, else without it.
+pub fn with_bits(random: &mut SplitMix64, entry: u64, bits: Bits) -> u64 {
+    let mut bit = |bit, often| if random.below(16) < often { bit } else { 0 };
+    entry & !TIED & !RETIRED | bit(TIED, bits.tied) | bit(RETIRED, bits.retired)
+}
+
+/// An entry, at times zero but for bits 63 and 62, often one of a few.
+pub fn entry(random: &mut SplitMix64, bits: Bits) -> u64 {
     let entry = match random.below(60) {
         0 => 0,
         1 => u64::MAX,
         2..=20 => 1 + random.below(4) as u64,
         _ => random.entry(),
     };
-    with_tie(random, entry, ties)
+    with_bits(random, entry, bits)
 }
 
 /// A rank, at times past the end.
@@ -57,7 +70,7 @@ pub fn rank(random: &mut SplitMix64, n: usize) -> usize {
 }
 
 /// A call that as a rule brings the number of entries nearer to `target`.
-fn some_call(random: &mut SplitMix64, n: usize, target: usize, ties: usize) -> Call {
+fn some_call(random: &mut SplitMix64, n: usize, target: usize, bits: Bits) -> Call {
     match random.below(40) {
         0 | 1 => Call::Read {
             first: rank(random, n),
@@ -69,7 +82,7 @@ fn some_call(random: &mut SplitMix64, n: usize, target: usize, ties: usize) -> C
         7 if random.below(60) == 0 => Call::Clear,
         _ if (n < target) == (random.below(8) != 0) => Call::Insert {
             rank: rank(random, n),
-            entry: entry(random, ties),
+            entry: entry(random, bits),
             tape: tape(random),
         },
         _ => Call::Delete {
@@ -93,12 +106,30 @@ fn to_and_fro(both: &mut Both) -> [Returned; 3] {
     [there, between, back]
 }
 
+/// A boat retires, or is taken back: her entry goes out and comes in again at her
+/// rank with the other bit 62, then her place is asked for. What the calls returned.
+fn retire(both: &mut Both, random: &mut SplitMix64) -> [Returned; 3] {
+    let rank = random.below(both.store.n());
+    // Bit 62 alone is no entry without it.
+    let entry = (both.store.entries().nth(rank).unwrap() ^ RETIRED).max(1);
+    let scoring = both.store.tallies[1];
+    let out = both.call(Call::Delete { rank, tape: stores::tape(random) });
+    let back = both.call(Call::Insert { rank, entry, tape: stores::tape(random) });
+    assert_eq!((out[0], back[0]), (0, 0));
+    let place = both.call(Call::Place { rank });
+    let retired = entry & RETIRED != 0;
+    assert_eq!(both.store.tallies[1], if retired { scoring - 1 } else { scoring + 1 });
+    assert_eq!(place == [0, 0, 0, 1], retired);
+    [out, back, place]
+}
+
 /// What histories met: how many calls returned each number, and how many places
-/// were those of tied boats.
+/// were those of tied and of retired boats.
 #[derive(Debug, Default)]
 pub struct Met {
     pub numbers: [u64; 12],
     pub tied: u64,
+    pub retired: u64,
 }
 
 impl Met {
@@ -106,6 +137,7 @@ impl Met {
         let [number, .., t] = returned;
         self.numbers[number as usize] += 1;
         self.tied += u64::from(t > 1);
+        self.retired += u64::from(returned == [0, 0, 0, 1]);
     }
 
     pub fn add(&mut self, other: Met) {
@@ -113,15 +145,17 @@ impl Met {
             *sum += number;
         }
         self.tied += other.tied;
+        self.retired += other.retired;
     }
 
     pub fn calls(&self) -> u64 {
         self.numbers.iter().sum()
     }
 
-    /// Every one of these numbers was returned, and boats tied.
+    /// Every one of these numbers was returned, and boats tied and retired.
     pub fn assert_met(&self, numbers: &[usize]) {
-        assert!(numbers.iter().all(|number| self.numbers[*number] > 0) && self.tied > 0, "{self:?}");
+        assert!(numbers.iter().all(|number| self.numbers[*number] > 0), "{self:?}");
+        assert!(self.tied > 0 && self.retired > 0, "{self:?}");
     }
 }
 
@@ -138,12 +172,12 @@ pub fn history(seed: u64, calls: u64, targets: &[usize]) -> Met {
             target = targets[random.below(targets.len())];
         }
         if random.below(50) == 0 && both.made() + 3 <= calls {
-            for returned in to_and_fro(&mut both) {
-                met.note(returned);
-            }
+            let retires = both.store.n() > 0 && random.below(2) == 0;
+            let three = if retires { retire(&mut both, &mut random) } else { to_and_fro(&mut both) };
+            three.into_iter().for_each(|returned| met.note(returned));
             continue;
         }
-        let call = some_call(&mut random, both.store.n(), target, ties(seed));
+        let call = some_call(&mut random, both.store.n(), target, Bits::of_seed(seed));
         met.note(both.call(call));
     }
     met

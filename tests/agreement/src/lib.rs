@@ -6,13 +6,14 @@ pub mod lines;
 pub mod program;
 pub mod proved;
 pub mod shares;
+pub mod sheets;
 pub mod stores;
 pub mod timed;
 pub mod timed_histories;
 
 use reference::calls::{self, Answer};
 use reference::conversions;
-use reference::layout::{COUNTS, SLOTS};
+use reference::layout::{COUNTS, SLOTS, TALLIES};
 use std::fmt::Debug;
 use std::fs;
 use std::io::{self, Write};
@@ -74,6 +75,7 @@ pub enum Call {
 pub struct Store {
     pub slots: Vec<u64>,
     pub counts: Vec<u16>,
+    pub tallies: Vec<u16>,
 }
 
 impl Store {
@@ -82,11 +84,26 @@ impl Store {
         Store {
             slots: vec![7; SLOTS],
             counts: vec![9; COUNTS],
+            tallies: vec![6; TALLIES],
+        }
+    }
+
+    /// The empty sheet.
+    pub fn cleared() -> Self {
+        Store {
+            slots: vec![0; SLOTS],
+            counts: vec![0; COUNTS],
+            tallies: vec![0; TALLIES],
         }
     }
 
     pub fn n(&self) -> usize {
         self.counts[1] as usize
+    }
+
+    /// The entries of a sheet, in their order.
+    pub fn entries(&self) -> impl Iterator<Item = u64> + '_ {
+        self.slots.iter().copied().filter(|entry| *entry != 0)
     }
 }
 
@@ -94,18 +111,18 @@ impl Lent for Store {
     type Call = Call;
 
     fn by_reference(&mut self, call: &Call) -> (Returned, Vec<u64>) {
-        let Store { slots, counts } = self;
+        let Store { slots, counts, tallies } = self;
         let mut out = Vec::new();
         let answer = match call {
-            Call::Clear => calls::clear(slots, counts),
-            Call::Insert { rank, entry, tape } => calls::insert(slots, counts, *rank, *entry, tape),
-            Call::Delete { rank, tape } => calls::delete(slots, counts, *rank, tape),
+            Call::Clear => calls::clear(slots, counts, tallies),
+            Call::Insert { rank, entry, tape } => calls::insert(slots, counts, tallies, *rank, *entry, tape),
+            Call::Delete { rank, tape } => calls::delete(slots, counts, tallies, *rank, tape),
             Call::Read { first, last, output } => {
                 out = output.clone();
-                calls::read(slots, counts, *first, *last, &mut out)
+                calls::read(slots, counts, tallies, *first, *last, &mut out)
             }
-            Call::Place { rank } => calls::place(slots, counts, *rank),
-            Call::Check => calls::check(slots, counts),
+            Call::Place { rank } => calls::place(slots, counts, tallies, *rank),
+            Call::Check => calls::check(slots, counts, tallies),
             Call::ToTreeOrder => conversions::to_tree_order(counts),
             Call::ToNumberOrder => conversions::to_number_order(counts),
         };

@@ -1,7 +1,7 @@
 //! Random histories of lines for the program: frames of the seven kinds, some
 //! of them refused, and damaged lines among them.
 
-use crate::histories::{entry, ties};
+use crate::histories::{entry, Bits};
 use reference::frames::Program;
 use reference::random::SplitMix64;
 
@@ -23,7 +23,7 @@ pub fn history(seed: u64, lines: u64, targets: &[usize]) -> Vec<u8> {
         let line = if is_over {
             b"05".to_vec()
         } else {
-            some_line(&mut random, n, target, program.waiting().len(), supply, ties(seed))
+            some_line(&mut random, n, target, program.waiting().len(), supply, Bits::of_seed(seed))
         };
         if is_over || random.below(3000) == 0 {
             target = targets[random.below(targets.len())];
@@ -44,7 +44,7 @@ pub fn history(seed: u64, lines: u64, targets: &[usize]) -> Vec<u8> {
 
 /// A line that as a rule brings the number of entries nearer to `target`, or
 /// the number of waiting words to `supply`.
-fn some_line(random: &mut SplitMix64, n: usize, target: usize, waiting: usize, supply: usize, ties: usize) -> Vec<u8> {
+fn some_line(random: &mut SplitMix64, n: usize, target: usize, waiting: usize, supply: usize, bits: Bits) -> Vec<u8> {
     let line = if waiting < supply && random.below(4) != 0 {
         tape_line(random)
     } else {
@@ -54,7 +54,7 @@ fn some_line(random: &mut SplitMix64, n: usize, target: usize, waiting: usize, s
             8 if supply > 0 => tape_line(random),
             9 if random.below(10) == 0 => "05".to_string(),
             9 if random.below(200) == 0 => "06".to_string(),
-            _ if (n < target) == (random.below(8) != 0) => format!("01{:04X}{:016X}", rank(random, n), entry(random, ties)),
+            _ if (n < target) == (random.below(8) != 0) => format!("01{:04X}{:016X}", rank(random, n), entry(random, bits)),
             _ => format!("02{:04X}", rank(random, n)),
         }
     };

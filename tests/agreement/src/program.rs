@@ -124,12 +124,14 @@ fn difference(seed: u64, input: &[u8], written: &[u8], expected: &[u8]) -> Strin
 }
 
 /// What some histories of lines met: how many lines, how many answers of each
-/// kind and cause, how many places of tied boats, and which numbers of entries.
+/// kind and cause, how many places of tied and of retired boats, and which numbers
+/// of entries.
 #[derive(Debug, Default)]
 pub struct Met {
     pub lines: u64,
     pub answers: BTreeMap<String, u64>,
     pub tied: u64,
+    pub retired: u64,
     pub lengths: BTreeSet<usize>,
 }
 
@@ -141,7 +143,10 @@ impl Met {
             if !text.starts_with('9') {
                 *met.answers.entry(text[..4].to_string()).or_default() += 1;
                 met.lengths.insert(usize::from_str_radix(&text[4..], 16).unwrap());
-                met.tied += u64::from(text.starts_with("8700") && !answer.ends_with(b"0001"));
+                if text.starts_with("8700") {
+                    met.tied += u64::from(!answer.ends_with(b"0001"));
+                    met.retired += u64::from(answer.ends_with(b"0000000000000001"));
+                }
             }
         }
         assert_eq!(met.answers.values().sum::<u64>(), lines, "an answer for each line");
@@ -154,6 +159,7 @@ impl Met {
             *self.answers.entry(head).or_default() += number;
         }
         self.tied += other.tied;
+        self.retired += other.retired;
         self.lengths.extend(other.lengths);
     }
 }

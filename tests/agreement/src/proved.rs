@@ -4,12 +4,23 @@
 use crate::{Call, Store, UNWRITTEN};
 
 extern "C" {
-    fn sheet_clear(slots: *mut u64, slots_len: usize, counts: *mut u16, counts_len: usize, answer: *mut u64, answer_len: usize) -> usize;
+    fn sheet_clear(
+        slots: *mut u64,
+        slots_len: usize,
+        counts: *mut u16,
+        counts_len: usize,
+        tallies: *mut u16,
+        tallies_len: usize,
+        answer: *mut u64,
+        answer_len: usize,
+    ) -> usize;
     fn sheet_insert(
         slots: *mut u64,
         slots_len: usize,
         counts: *mut u16,
         counts_len: usize,
+        tallies: *mut u16,
+        tallies_len: usize,
         rank: usize,
         entry: u64,
         tape: *const u32,
@@ -22,6 +33,8 @@ extern "C" {
         slots_len: usize,
         counts: *mut u16,
         counts_len: usize,
+        tallies: *mut u16,
+        tallies_len: usize,
         rank: usize,
         tape: *const u32,
         tape_len: usize,
@@ -33,6 +46,8 @@ extern "C" {
         slots_len: usize,
         counts: *const u16,
         counts_len: usize,
+        tallies: *const u16,
+        tallies_len: usize,
         first: usize,
         last: usize,
         output: *mut u64,
@@ -40,8 +55,27 @@ extern "C" {
         answer: *mut u64,
         answer_len: usize,
     ) -> usize;
-    fn sheet_place(slots: *const u64, slots_len: usize, counts: *const u16, counts_len: usize, rank: usize, answer: *mut u64, answer_len: usize) -> usize;
-    fn sheet_check(slots: *const u64, slots_len: usize, counts: *const u16, counts_len: usize, answer: *mut u64, answer_len: usize) -> usize;
+    fn sheet_place(
+        slots: *const u64,
+        slots_len: usize,
+        counts: *const u16,
+        counts_len: usize,
+        tallies: *const u16,
+        tallies_len: usize,
+        rank: usize,
+        answer: *mut u64,
+        answer_len: usize,
+    ) -> usize;
+    fn sheet_check(
+        slots: *const u64,
+        slots_len: usize,
+        counts: *const u16,
+        counts_len: usize,
+        tallies: *const u16,
+        tallies_len: usize,
+        answer: *mut u64,
+        answer_len: usize,
+    ) -> usize;
     fn sheet_to_tree_order(counts: *mut u16, counts_len: usize, answer: *mut u64, answer_len: usize) -> usize;
     fn sheet_to_number_order(counts: *mut u16, counts_len: usize, answer: *mut u64, answer_len: usize) -> usize;
     fn frame_kind(line: *const u8, line_len: usize) -> u8;
@@ -52,6 +86,8 @@ extern "C" {
         slots_len: usize,
         counts: *mut u16,
         counts_len: usize,
+        tallies: *mut u16,
+        tallies_len: usize,
         tape: *mut u32,
         tape_len: usize,
         waiting: *mut u64,
@@ -68,19 +104,20 @@ pub fn call_with(call: &Call, store: &mut Store, room: usize) -> (u64, Vec<u64>,
     let (a, a_len) = (answer.as_mut_ptr(), room);
     let (s, s_len) = (store.slots.as_mut_ptr(), store.slots.len());
     let (c, c_len) = (store.counts.as_mut_ptr(), store.counts.len());
+    let (t, t_len) = (store.tallies.as_mut_ptr(), store.tallies.len());
     let mut out = Vec::new();
     // Each pointer comes from a live vector of the length beside it, and no two vectors overlap.
     let number = unsafe {
         match call {
-            Call::Clear => sheet_clear(s, s_len, c, c_len, a, a_len),
-            Call::Insert { rank, entry, tape } => sheet_insert(s, s_len, c, c_len, *rank, *entry, tape.as_ptr(), tape.len(), a, a_len),
-            Call::Delete { rank, tape } => sheet_delete(s, s_len, c, c_len, *rank, tape.as_ptr(), tape.len(), a, a_len),
+            Call::Clear => sheet_clear(s, s_len, c, c_len, t, t_len, a, a_len),
+            Call::Insert { rank, entry, tape } => sheet_insert(s, s_len, c, c_len, t, t_len, *rank, *entry, tape.as_ptr(), tape.len(), a, a_len),
+            Call::Delete { rank, tape } => sheet_delete(s, s_len, c, c_len, t, t_len, *rank, tape.as_ptr(), tape.len(), a, a_len),
             Call::Read { first, last, output } => {
                 out = output.clone();
-                sheet_read(s, s_len, c, c_len, *first, *last, out.as_mut_ptr(), out.len(), a, a_len)
+                sheet_read(s, s_len, c, c_len, t, t_len, *first, *last, out.as_mut_ptr(), out.len(), a, a_len)
             }
-            Call::Place { rank } => sheet_place(s, s_len, c, c_len, *rank, a, a_len),
-            Call::Check => sheet_check(s, s_len, c, c_len, a, a_len),
+            Call::Place { rank } => sheet_place(s, s_len, c, c_len, t, t_len, *rank, a, a_len),
+            Call::Check => sheet_check(s, s_len, c, c_len, t, t_len, a, a_len),
             Call::ToTreeOrder => sheet_to_tree_order(c, c_len, a, a_len),
             Call::ToNumberOrder => sheet_to_number_order(c, c_len, a, a_len),
         }
@@ -96,7 +133,7 @@ pub fn frame_kind_of(line: &[u8]) -> u8 {
 
 /// One step on a line without its LF: the number of bytes of its answer.
 pub fn step(line: &[u8], store: &mut Store, tape: &mut [u32], waiting: &mut [u64], output: &mut [u8]) -> usize {
-    let Store { slots, counts } = store;
+    let Store { slots, counts, tallies } = store;
     // Each pointer and the length beside it are those of a slice, and no two slices overlap.
     unsafe {
         frame_step(
@@ -106,6 +143,8 @@ pub fn step(line: &[u8], store: &mut Store, tape: &mut [u32], waiting: &mut [u64
             slots.len(),
             counts.as_mut_ptr(),
             counts.len(),
+            tallies.as_mut_ptr(),
+            tallies.len(),
             tape.as_mut_ptr(),
             tape.len(),
             waiting.as_mut_ptr(),

@@ -1,9 +1,10 @@
 //! Stores and tapes that several tests begin with.
 
-use crate::histories::with_tie;
+use crate::histories::{with_bits, Bits};
 use crate::Store;
-use reference::layout::{Node, Shape, COUNTS, SIZE, SLOTS};
-use reference::places::TIED;
+use reference::conversions::to_number_order;
+use reference::layout::{Node, Shape, COUNTS, SIZE, SLOTS, TALLIES};
+use reference::places::{RETIRED, TIED};
 use reference::random::SplitMix64;
 use std::collections::BTreeSet;
 
@@ -14,14 +15,14 @@ pub fn tape(random: &mut SplitMix64) -> Vec<u32> {
     words
 }
 
-/// A list of n entries whose keys rise, all of them even and from 8 on; of so many
-/// entries in 16 bit 63 is set.
-pub fn rising(n: usize, ties: usize, random: &mut SplitMix64) -> Vec<u64> {
+/// A list of n entries whose keys rise, all of them even and from 8 on, with bits 63
+/// and 62 so often.
+pub fn rising(n: usize, bits: Bits, random: &mut SplitMix64) -> Vec<u64> {
     let mut keys = BTreeSet::new();
     while keys.len() < n {
-        keys.insert((random.entry() | 8) & !1 & !TIED);
+        keys.insert((random.entry() | 8) & !1 & !TIED & !RETIRED);
     }
-    keys.into_iter().map(|key| with_tie(random, key, ties)).collect()
+    keys.into_iter().map(|key| with_bits(random, key, bits)).collect()
 }
 
 /// The sheet of a list, a size and random balance entries.
@@ -41,5 +42,40 @@ pub fn sheet_of_size(list: &[u64], m: usize, random: &mut SplitMix64) -> Store {
     Store {
         slots: slots.to_vec(),
         counts: counts.to_vec(),
+        tallies: shape.tallies(&slots).to_vec(),
     }
+}
+
+/// Slices that are no tallies of this sheet, each with the rule that it follows. Some
+/// boats of the sheet have retired, and some have not.
+pub fn other_tallies(sheet: &Store, random: &mut SplitMix64) -> Vec<(&'static str, Vec<u16>)> {
+    let (m, list) = (usize::from(sheet.counts[SIZE]), sheet.entries().collect::<Vec<_>>());
+    let (shape, right) = (Shape::of(m), &sheet.tallies);
+    let with_first = |tallies: &[u16], first: usize| [&[first as u16], &tallies[1..]].concat();
+    let retired: Vec<u16> = sheet.counts.iter().zip(right).map(|(n, tally)| n - tally).collect();
+    // Converted as counts are, with M for number 0.
+    let mut by_number = with_first(right, m);
+    assert_eq!(to_number_order(&mut by_number).number(), 0);
+    let mut unused = right.clone();
+    unused[TALLIES - 1] += 1;
+    let mut behind = right.clone();
+    behind.rotate_right(1);
+    let all = vec![
+        ("zeros", vec![0; TALLIES]),
+        ("the counts", sheet.counts.clone()),
+        ("the counts, 0 for number 0", with_first(&sheet.counts, 0)),
+        ("the retired boats", with_first(&retired, 0)),
+        ("M for number 0", with_first(right, m)),
+        ("N for number 0", with_first(right, list.len())),
+        ("all scoring boats for number 0", with_first(right, usize::from(right[1]))),
+        ("the order of the range numbers", with_first(&by_number, 0)),
+        ("one place behind", behind),
+        ("the last number", unused),
+        ("another sheet of the size", sheet_of_size(&list, m, random).tallies),
+        ("another size", sheet_of_size(&list, list.len() + 1, random).tallies),
+    ];
+    // Those of another sheet may be right by chance, and more of them where there is one range.
+    let wrong: Vec<_> = all.into_iter().filter(|(_, tallies)| tallies != right).collect();
+    assert!(wrong.len() >= if shape.height == 0 { 6 } else { 10 });
+    wrong
 }

@@ -2,7 +2,7 @@
 //! library's C functions (`include/timed.h`).
 
 use crate::{returned, stores, Lent, Returned, UNWRITTEN};
-use reference::layout::{COUNTS, SLOTS};
+use reference::layout::{COUNTS, SLOTS, TALLIES};
 use reference::random::SplitMix64;
 use reference::timed::{self, BALANCE};
 
@@ -21,6 +21,7 @@ pub enum Call {
 pub struct Store {
     pub slots: Vec<u64>,
     pub counts: Vec<u16>,
+    pub tallies: Vec<u16>,
     pub balance: Vec<u64>,
 }
 
@@ -30,6 +31,7 @@ impl Store {
         Store {
             slots: vec![7; SLOTS],
             counts: vec![9; COUNTS],
+            tallies: vec![6; TALLIES],
             balance: vec![8; BALANCE],
         }
     }
@@ -43,12 +45,21 @@ impl Store {
         self.slots.iter().copied().filter(|entry| *entry != 0)
     }
 
-    /// Slots and counts of a sheet with the third slice that belongs to them,
-    /// whether the entries rise or not.
+    /// A sheet with the third slice that belongs to it, whether the entries rise or
+    /// not.
     pub fn of_sheet(sheet: crate::Store) -> Self {
-        let crate::Store { slots, counts } = sheet;
-        let balance = timed::balance_entries(&slots, &counts).unwrap().to_vec();
-        Store { slots, counts, balance }
+        let crate::Store { slots, counts, tallies } = sheet;
+        let balance = timed::balance_entries(&slots, &counts, &tallies).unwrap().to_vec();
+        Store { slots, counts, tallies, balance }
+    }
+
+    /// The store without the third slice.
+    pub fn plain(&self) -> crate::Store {
+        crate::Store {
+            slots: self.slots.clone(),
+            counts: self.counts.clone(),
+            tallies: self.tallies.clone(),
+        }
     }
 
     /// The same of a list, a size and random balance entries.
@@ -61,19 +72,19 @@ impl Lent for Store {
     type Call = Call;
 
     fn by_reference(&mut self, call: &Call) -> (Returned, Vec<u64>) {
-        let Store { slots, counts, balance } = self;
+        let Store { slots, counts, tallies, balance } = self;
         let mut out = Vec::new();
         let answer = match call {
-            Call::Clear => timed::clear(slots, counts, balance),
-            Call::Insert { entry, tape } => timed::insert(slots, counts, balance, *entry, tape),
-            Call::Delete { rank, tape } => timed::delete(slots, counts, balance, *rank, tape),
-            Call::Find { entry } => timed::find(slots, counts, balance, *entry),
+            Call::Clear => timed::clear(slots, counts, tallies, balance),
+            Call::Insert { entry, tape } => timed::insert(slots, counts, tallies, balance, *entry, tape),
+            Call::Delete { rank, tape } => timed::delete(slots, counts, tallies, balance, *rank, tape),
+            Call::Find { entry } => timed::find(slots, counts, tallies, balance, *entry),
             Call::Read { first, last, output } => {
                 out = output.clone();
-                timed::read(slots, counts, balance, *first, *last, &mut out)
+                timed::read(slots, counts, tallies, balance, *first, *last, &mut out)
             }
-            Call::Place { rank } => timed::place(slots, counts, balance, *rank),
-            Call::Check => timed::check(slots, counts, balance),
+            Call::Place { rank } => timed::place(slots, counts, tallies, balance, *rank),
+            Call::Check => timed::check(slots, counts, tallies, balance),
         };
         (returned(answer), out)
     }
@@ -103,6 +114,8 @@ extern "C" {
         slots_len: usize,
         counts: *mut u16,
         counts_len: usize,
+        tallies: *mut u16,
+        tallies_len: usize,
         balance: *mut u64,
         balance_len: usize,
         answer: *mut u64,
@@ -113,6 +126,8 @@ extern "C" {
         slots_len: usize,
         counts: *mut u16,
         counts_len: usize,
+        tallies: *mut u16,
+        tallies_len: usize,
         balance: *mut u64,
         balance_len: usize,
         entry: u64,
@@ -126,6 +141,8 @@ extern "C" {
         slots_len: usize,
         counts: *mut u16,
         counts_len: usize,
+        tallies: *mut u16,
+        tallies_len: usize,
         balance: *mut u64,
         balance_len: usize,
         rank: usize,
@@ -139,6 +156,8 @@ extern "C" {
         slots_len: usize,
         counts: *const u16,
         counts_len: usize,
+        tallies: *const u16,
+        tallies_len: usize,
         balance: *const u64,
         balance_len: usize,
         entry: u64,
@@ -150,6 +169,8 @@ extern "C" {
         slots_len: usize,
         counts: *const u16,
         counts_len: usize,
+        tallies: *const u16,
+        tallies_len: usize,
         balance: *const u64,
         balance_len: usize,
         first: usize,
@@ -164,6 +185,8 @@ extern "C" {
         slots_len: usize,
         counts: *const u16,
         counts_len: usize,
+        tallies: *const u16,
+        tallies_len: usize,
         balance: *const u64,
         balance_len: usize,
         rank: usize,
@@ -175,6 +198,8 @@ extern "C" {
         slots_len: usize,
         counts: *const u16,
         counts_len: usize,
+        tallies: *const u16,
+        tallies_len: usize,
         balance: *const u64,
         balance_len: usize,
         answer: *mut u64,
@@ -189,21 +214,22 @@ fn call_with(call: &Call, store: &mut Store, room: usize) -> (u64, Vec<u64>, Vec
     let (a, a_len) = (answer.as_mut_ptr(), room);
     let (s, s_len) = (store.slots.as_mut_ptr(), store.slots.len());
     let (c, c_len) = (store.counts.as_mut_ptr(), store.counts.len());
+    let (t, t_len) = (store.tallies.as_mut_ptr(), store.tallies.len());
     let (b, b_len) = (store.balance.as_mut_ptr(), store.balance.len());
     let mut out = Vec::new();
     // Each pointer comes from a live vector of the length beside it, and no two vectors overlap.
     let number = unsafe {
         match call {
-            Call::Clear => timed_clear(s, s_len, c, c_len, b, b_len, a, a_len),
-            Call::Insert { entry, tape } => timed_insert(s, s_len, c, c_len, b, b_len, *entry, tape.as_ptr(), tape.len(), a, a_len),
-            Call::Delete { rank, tape } => timed_delete(s, s_len, c, c_len, b, b_len, *rank, tape.as_ptr(), tape.len(), a, a_len),
-            Call::Find { entry } => timed_find(s, s_len, c, c_len, b, b_len, *entry, a, a_len),
+            Call::Clear => timed_clear(s, s_len, c, c_len, t, t_len, b, b_len, a, a_len),
+            Call::Insert { entry, tape } => timed_insert(s, s_len, c, c_len, t, t_len, b, b_len, *entry, tape.as_ptr(), tape.len(), a, a_len),
+            Call::Delete { rank, tape } => timed_delete(s, s_len, c, c_len, t, t_len, b, b_len, *rank, tape.as_ptr(), tape.len(), a, a_len),
+            Call::Find { entry } => timed_find(s, s_len, c, c_len, t, t_len, b, b_len, *entry, a, a_len),
             Call::Read { first, last, output } => {
                 out = output.clone();
-                timed_read(s, s_len, c, c_len, b, b_len, *first, *last, out.as_mut_ptr(), out.len(), a, a_len)
+                timed_read(s, s_len, c, c_len, t, t_len, b, b_len, *first, *last, out.as_mut_ptr(), out.len(), a, a_len)
             }
-            Call::Place { rank } => timed_place(s, s_len, c, c_len, b, b_len, *rank, a, a_len),
-            Call::Check => timed_check(s, s_len, c, c_len, b, b_len, a, a_len),
+            Call::Place { rank } => timed_place(s, s_len, c, c_len, t, t_len, b, b_len, *rank, a, a_len),
+            Call::Check => timed_check(s, s_len, c, c_len, t, t_len, b, b_len, a, a_len),
         }
     };
     (number as u64, answer, out)

@@ -1,13 +1,14 @@
-//! Random timed histories, with refused calls among them.
+//! Random timed histories, with refused calls and boats that retire among them.
 
-use crate::histories::{rank, tape, ties, with_tie, Met};
+use crate::histories::{rank, tape, with_bits, Bits, Met};
 use crate::timed::{Call, Store};
-use crate::Both;
+use crate::{stores, Both, Returned};
+use reference::places::RETIRED;
 use reference::random::SplitMix64;
 
-/// An entry: at times zero or the highest but for bit 63; often one that is there
-/// or stands beside one that is, or a finish of a few times and sail numbers.
-fn entry(random: &mut SplitMix64, store: &Store, ties: usize) -> u64 {
+/// An entry: at times zero or the highest but for bits 63 and 62; often one that is
+/// there or stands beside one that is, or a finish of a few times and sail numbers.
+fn entry(random: &mut SplitMix64, store: &Store, bits: Bits) -> u64 {
     let entry = match random.below(60) {
         0 => 0,
         1 => u64::MAX,
@@ -18,11 +19,11 @@ fn entry(random: &mut SplitMix64, store: &Store, ties: usize) -> u64 {
         2..=29 => (random.below(600) as u64) << 32 | random.below(5) as u64,
         _ => random.entry(),
     };
-    with_tie(random, entry, ties)
+    with_bits(random, entry, bits)
 }
 
 /// A call that as a rule brings the number of entries nearer to `target`.
-fn some_call(random: &mut SplitMix64, store: &Store, target: usize, ties: usize) -> Call {
+fn some_call(random: &mut SplitMix64, store: &Store, target: usize, bits: Bits) -> Call {
     let n = store.n();
     match random.below(40) {
         0 | 1 => Call::Read {
@@ -33,9 +34,9 @@ fn some_call(random: &mut SplitMix64, store: &Store, target: usize, ties: usize)
         2..=5 => Call::Place { rank: rank(random, n) },
         6 => Call::Check,
         7 if random.below(60) == 0 => Call::Clear,
-        7..=11 => Call::Find { entry: entry(random, store, ties) },
+        7..=11 => Call::Find { entry: entry(random, store, bits) },
         _ if (n < target) == (random.below(8) != 0) => Call::Insert {
-            entry: entry(random, store, ties),
+            entry: entry(random, store, bits),
             tape: tape(random),
         },
         _ => Call::Delete {
@@ -43,6 +44,22 @@ fn some_call(random: &mut SplitMix64, store: &Store, target: usize, ties: usize)
             tape: tape(random),
         },
     }
+}
+
+/// A boat retires, or is taken back: her entry goes out and comes in again with the
+/// other bit 62, then her place is asked for. What the calls returned.
+fn retire(both: &mut Both<Store>, random: &mut SplitMix64) -> [Returned; 3] {
+    let rank = random.below(both.store.n());
+    let entry = both.store.entries().nth(rank).unwrap() ^ RETIRED;
+    let calls = [
+        Call::Delete { rank, tape: stores::tape(random) },
+        Call::Insert { entry, tape: stores::tape(random) },
+        Call::Place { rank },
+    ];
+    let returned = calls.map(|call| both.call(call));
+    assert_eq!(returned.map(|of_call| of_call[0]), [0; 3]);
+    assert_eq!(returned[2] == [0, 0, 0, 1], entry & RETIRED != 0);
+    returned
 }
 
 /// A timed history of so many calls, by way of each of the targets.
@@ -57,7 +74,11 @@ pub fn history(seed: u64, calls: u64, targets: &[usize]) -> Met {
         if both.store.n() == target || random.below(3000) == 0 {
             target = targets[random.below(targets.len())];
         }
-        let call = some_call(&mut random, &both.store, target, ties(seed));
+        if both.store.n() > 0 && random.below(100) == 0 && both.made() + 3 <= calls {
+            retire(&mut both, &mut random).into_iter().for_each(|returned| met.note(returned));
+            continue;
+        }
+        let call = some_call(&mut random, &both.store, target, Bits::of_seed(seed));
         met.note(both.call(call));
     }
     met

@@ -1,8 +1,10 @@
 //! Answer slices of every length: too short for a call's values, as long, and
 //! longer; on sheets and on stores that a call refuses.
 
+use agreement::histories::Bits;
 use agreement::stores::{rising, sheet_of_size};
 use agreement::{timed, Call, Lent, Store, UNWRITTEN};
+use reference::places::RETIRED;
 use reference::random::SplitMix64;
 
 /// The call with answer slices of 0 to 5 elements, each on a copy of the store. Too
@@ -33,8 +35,14 @@ fn tape() -> Vec<u32> {
     vec![1; 300]
 }
 
-/// Calls on a plain sheet of 100 entries, accepted and refused.
-fn calls() -> Vec<Call> {
+/// The rank of a retired boat.
+fn retired(list: &[u64]) -> usize {
+    list.iter().position(|entry| entry & RETIRED != 0).unwrap()
+}
+
+/// Calls on a plain sheet of 100 entries, accepted and refused; a boat of this rank has
+/// retired.
+fn calls(retired: usize) -> Vec<Call> {
     vec![
         Call::Clear,
         Call::Check,
@@ -48,6 +56,7 @@ fn calls() -> Vec<Call> {
         Call::Read { first: 7, last: 8, output: vec![5] },
         Call::Read { first: 8, last: 7, output: vec![5; 4] },
         Call::Place { rank: 7 },
+        Call::Place { rank: retired },
         Call::Place { rank: 99 },
         Call::Place { rank: 100 },
         Call::ToTreeOrder,
@@ -58,20 +67,24 @@ fn calls() -> Vec<Call> {
 #[test]
 fn plain_sheets_and_conversions() {
     let mut random = SplitMix64::new(7000);
-    let sheet = sheet_of_size(&rising(100, 14, &mut random), 150, &mut random);
-    let (mut short, mut no_sheet, mut too_large) = (sheet.clone(), sheet.clone(), sheet.clone());
-    short.counts.pop();
-    no_sheet.counts[255] = 1;
-    too_large.counts[0] = 2048;
-    for before in [sheet, short, no_sheet, too_large, Store::unused()] {
-        for call in calls() {
+    let list = rising(100, Bits::new(14, 4), &mut random);
+    let mut stores = vec![sheet_of_size(&list, 150, &mut random); 6];
+    stores[1].counts.pop();
+    stores[2].counts[255] = 1;
+    stores[3].counts[0] = 2048;
+    stores[4].tallies.pop();
+    stores[5].tallies[255] = 1;
+    stores.push(Store::unused());
+    for before in stores {
+        for call in calls(retired(&list)) {
             with_every_room(&before, &call);
         }
     }
 }
 
-/// Calls on a timed sheet of 100 entries, accepted and refused.
-fn timed_calls(there: u64) -> Vec<timed::Call> {
+/// Calls on a timed sheet of 100 entries, one of which is this, accepted and refused; a
+/// boat of this rank has retired.
+fn timed_calls(there: u64, retired: usize) -> Vec<timed::Call> {
     use timed::Call;
     vec![
         Call::Clear,
@@ -88,6 +101,7 @@ fn timed_calls(there: u64) -> Vec<timed::Call> {
         Call::Read { first: 7, last: 8, output: vec![5; 4] },
         Call::Read { first: 7, last: 8, output: vec![5] },
         Call::Place { rank: 7 },
+        Call::Place { rank: retired },
         Call::Place { rank: 99 },
         Call::Place { rank: 100 },
     ]
@@ -96,14 +110,16 @@ fn timed_calls(there: u64) -> Vec<timed::Call> {
 #[test]
 fn timed_sheets() {
     let mut random = SplitMix64::new(7001);
-    let list = rising(100, 14, &mut random);
-    let sheet = timed::Store::of_size(&list, 150, &mut random);
-    let (mut short, mut no_sheet, mut not_timed) = (sheet.clone(), sheet.clone(), sheet.clone());
-    short.balance.pop();
-    no_sheet.counts[255] = 1;
-    not_timed.balance[255] = 1;
-    for before in [sheet, short, no_sheet, not_timed, timed::Store::unused()] {
-        for call in timed_calls(list[50]) {
+    let list = rising(100, Bits::new(14, 4), &mut random);
+    let mut stores = vec![timed::Store::of_size(&list, 150, &mut random); 6];
+    stores[1].balance.pop();
+    stores[2].counts[255] = 1;
+    stores[3].balance[255] = 1;
+    stores[4].tallies.pop();
+    stores[5].tallies[255] = 1;
+    stores.push(timed::Store::unused());
+    for before in stores {
+        for call in timed_calls(list[50], retired(&list)) {
             with_every_room(&before, &call);
         }
     }

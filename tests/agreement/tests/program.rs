@@ -6,7 +6,7 @@ use agreement::lines;
 use agreement::program::{agrees, expected_for, lines_of, same, written_for, Met};
 use agreement::say;
 use reference::frames::frame_kind;
-use reference::places::TIED;
+use reference::places::{RETIRED, TIED};
 use reference::random::SplitMix64;
 use std::io::Write;
 use std::ops::Range;
@@ -29,9 +29,9 @@ fn tape_line(words: usize) -> String {
     format!("04{}", "00000001".repeat(words))
 }
 
-/// Lines that make a sheet of n entries, 1, 2, …, each with this bit or none, and
+/// Lines that make a sheet of n entries, 1, 2, …, each with these bits or none, and
 /// leave few words waiting.
-fn entries(n: usize, bit: u64) -> Vec<String> {
+fn entries(n: usize, bits: u64) -> Vec<String> {
     let mut random = SplitMix64::new(3);
     let mut program = reference::frames::Program::new();
     let mut lines = Vec::new();
@@ -44,7 +44,7 @@ fn entries(n: usize, bit: u64) -> Vec<String> {
             lines.push(line);
         }
         length += 1;
-        let line = format!("01{:04X}{:016X}", random.below(length as usize), length | bit);
+        let line = format!("01{:04X}{:016X}", random.below(length as usize), length | bits);
         program.step(line.as_bytes(), &mut answers);
         lines.push(line);
     }
@@ -109,6 +109,44 @@ fn dead_heats() {
         "8700000400010000000A0004",
     ];
     assert_eq!(answers(&input)[6..], output);
+}
+
+/// Document 02, F-11: B has retired and bears bit 63, so that C ties with A; D has
+/// retired without it, so that E does not tie with C. E goes out and comes in again
+/// retired, then D scores.
+#[test]
+fn retired_boats() {
+    let boats = ["000000000000000A", "C00000000000000B", "800000000000000C", "400000000000000D", "800000000000000E"];
+    let mut input = vec![tape_line(16)];
+    input.extend(boats.iter().enumerate().map(|(rank, boat)| format!("01{rank:04X}{boat}")));
+    input.extend(strings(&["070000", "070001", "070002", "070003", "070004", "0300010003"]));
+    input.extend(strings(&["020004", "010004C00000000000000E", "070004", "020003", "010003800000000000000D", "070003", "070000"]));
+    let output = [
+        "870000050001000000030002",
+        "870000050000000000000001",
+        "870000050001000000030002",
+        "870000050000000000000001",
+        "870000050003000000030001",
+        "83000005C00000000000000B800000000000000C400000000000000D",
+        "82000004",
+        "81000005",
+        "870000050000000000000001",
+        "82000004",
+        "81000005",
+        "870000050001000000060003",
+        "870000050001000000060003",
+    ];
+    assert_eq!(answers(&input)[6..], output);
+}
+
+/// 1,024 boats that tie and have retired have no place.
+#[test]
+fn a_full_sheet_of_retired_boats() {
+    let mut input = entries(1024, RETIRED | TIED);
+    let made = input.len();
+    input.extend((0..1024).map(|rank| format!("07{rank:04X}")));
+    let written = answers(&input);
+    assert!(written[made..].iter().all(|answer| answer == "870004000000000000000001"));
 }
 
 /// 1,024 boats that tie have place 1; the sum of the places, 524,800, takes three
@@ -255,9 +293,9 @@ fn histories(seeds: Range<u64>, lines: u64, targets: &[usize]) -> Met {
 }
 
 /// The answers, each by kind and cause, were given, lists were so long, and boats
-/// tied.
+/// tied and retired.
 fn assert_met(met: &Met, answers: &[&str], lengths: &[usize]) {
-    assert!(met.tied > 0, "{met:?}");
+    assert!(met.tied > 0 && met.retired > 0, "{met:?}");
     for answer in answers {
         assert!(met.answers.contains_key(*answer), "{answer} in {:?}", met.answers);
     }

@@ -1,10 +1,14 @@
-//! Damaged stores, stores by the former leaf rule and in the former order, wrong
-//! lengths, and tapes that end at every place, on both.
+//! Damaged stores, other tallies, stores by the former leaf rule and in the former
+//! order, wrong lengths, and tapes that end at every place, on both.
 
-use agreement::stores::{sheet_of_size, tape};
+use agreement::histories::{with_bits, Bits};
+use agreement::stores::{other_tallies, sheet_of_size, tape};
 use agreement::{Both, Call, Store};
-use reference::layout::{Shape, SIZE};
+use reference::layout::{Shape, SIZE, TALLIES};
+use reference::places::RETIRED;
 use reference::random::SplitMix64;
+
+const REFUSED_2: [u64; 6] = [2, 2, 2, 2, 2, 0];
 
 /// A sheet of n entries.
 fn sheet(seed: u64, n: usize) -> Store {
@@ -13,8 +17,9 @@ fn sheet(seed: u64, n: usize) -> Store {
     both.call(Call::Clear);
     while both.store.n() < n {
         let tape = tape(&mut random);
-        let rank = random.below(both.store.n() + 1);
-        both.call(Call::Insert { rank, entry: random.entry(), tape });
+        let (rank, entry) = (random.below(both.store.n() + 1), random.entry());
+        let entry = with_bits(&mut random, entry | 1, Bits::SOME);
+        both.call(Call::Insert { rank, entry, tape });
     }
     both.store
 }
@@ -67,6 +72,68 @@ fn slots_changed() {
     }
 }
 
+/// Another bit 62, and the tallies stay.
+#[test]
+fn bit_62_of_every_entry_changed() {
+    for (seed, n) in [(15, 1), (16, 5), (17, 70), (18, 300)] {
+        let before = sheet(seed, n);
+        let held = (0..before.slots.len()).filter(|k| before.slots[*k] != 0);
+        for k in held {
+            let mut store = before.clone();
+            store.slots[k] ^= RETIRED;
+            assert_eq!(all_calls(seed, &store), REFUSED_2, "N {n} slot {k}");
+        }
+    }
+}
+
+/// Number 0 and the unused ones too, which are zero on a sheet.
+#[test]
+fn every_tally_changed() {
+    for (seed, n) in [(6, 0), (7, 5), (8, 64), (9, 70), (10, 1024)] {
+        let before = sheet(seed, n);
+        for k in 0..TALLIES {
+            for change in [1, u16::MAX, 0x8000] {
+                let mut store = before.clone();
+                store.tallies[k] = store.tallies[k].wrapping_add(change);
+                assert_eq!(all_calls(seed, &store), REFUSED_2, "N {n} number {k}");
+            }
+        }
+    }
+}
+
+/// Tallies by other rules, in another order, and of other sheets of the list.
+#[test]
+fn wrong_tallies() {
+    let mut random = SplitMix64::new(63);
+    for n in [3, 40, 65, 70, 130, 300, 700, 1024] {
+        for m in [n, n + random.below(n), 2 * n - 1] {
+            let list: Vec<u64> = (0..n as u64).map(|k| with_bits(&mut random, k + 1, Bits::SOME)).collect();
+            let sheet = sheet_of_size(&list, m, &mut random);
+            assert_eq!(Both::new(63, sheet.clone()).call(Call::Check), [0, n as u64, 0, 0], "N {n} M {m}");
+            for (rule, tallies) in other_tallies(&sheet, &mut random) {
+                let store = Store { tallies, ..sheet.clone() };
+                assert_eq!(all_calls(63, &store), REFUSED_2, "N {n} M {m}, {rule}");
+            }
+        }
+    }
+}
+
+/// A store from before the tallies, with no retired boat, gets a copy of its counts
+/// with 0 for number 0.
+#[test]
+fn tallies_of_a_former_store() {
+    let mut random = SplitMix64::new(64);
+    for n in [0, 1, 40, 64, 65, 130, 1024] {
+        for m in [n, n + random.below(n.max(1)), (2 * n).max(1) - 1] {
+            let list: Vec<u64> = (0..n).map(|_| random.entry() & !RETIRED | 1).collect();
+            let mut store = sheet_of_size(&list, m, &mut random);
+            store.tallies = store.counts.clone();
+            store.tallies[0] = 0;
+            assert_eq!(Both::new(64, store).call(Call::Check), [0, n as u64, 0, 0], "N {n} M {m}");
+        }
+    }
+}
+
 /// The store with the entries of each leaf moved to the slots ⌊k × s / n⌋.
 fn by_the_leaf_rule_of_01(sheet: &Store) -> Store {
     let mut store = sheet.clone();
@@ -97,7 +164,7 @@ fn leaf_rule_of_document_01() {
             let same = store == sheet;
             assert_eq!(same, n == m && m <= 64, "N {n} M {m}");
             let numbers = match (same, n) {
-                (false, _) => [2, 2, 2, 2, 2, 0],
+                (false, _) => REFUSED_2,
                 (true, 0) => [0, 0, 4, 4, 4, 0],
                 (true, _) => [0; 6],
             };
@@ -123,7 +190,7 @@ fn number_order() {
             assert_eq!(both.call(Call::ToNumberOrder), [0, m as u64, 0, 0]);
             assert_eq!(both.store == sheet, m <= 64, "N {n} M {m}");
             if m > 64 {
-                assert_eq!(all_calls(62, &both.store), [2, 2, 2, 2, 2, 0], "N {n} M {m}");
+                assert_eq!(all_calls(62, &both.store), REFUSED_2, "N {n} M {m}");
             }
             assert_eq!(both.call(Call::ToTreeOrder), [0, m as u64, 0, 0]);
             assert!(both.store == sheet, "N {n} M {m}");
@@ -134,12 +201,41 @@ fn number_order() {
 
 #[test]
 fn wrong_lengths() {
-    let before = sheet(21, 40);
-    for (slots, counts) in [(0, 0), (4223, 256), (4224, 255), (4225, 256), (4224, 257), (0, 256), (4224, 0)] {
-        let mut store = before.clone();
-        store.slots.resize(slots, 0);
-        store.counts.resize(counts, 0);
-        all_calls(21, &store);
+    let lengths = [
+        (0, 0, 0),
+        (4223, 256, 256),
+        (4225, 256, 256),
+        (0, 256, 256),
+        (4224, 255, 256),
+        (4224, 257, 256),
+        (4224, 0, 256),
+        (4224, 256, 255),
+        (4224, 256, 257),
+        (4224, 256, 0),
+        (4224, 256, 4224),
+    ];
+    for before in [sheet(21, 40), sheet(22, 200), Store::cleared(), Store::unused()] {
+        for (slots, counts, tallies) in lengths {
+            let mut store = before.clone();
+            store.slots.resize(slots, 0);
+            store.counts.resize(counts, 0);
+            store.tallies.resize(tallies, 0);
+            assert_eq!(all_calls(21, &store), [1; 6], "{slots} slots, {counts} counts, {tallies} tallies");
+        }
+    }
+}
+
+/// What a smaller sheet does not use is zero again.
+#[test]
+fn down_to_nothing() {
+    for (seed, n) in [(41, 70), (42, 300), (43, 1024)] {
+        let mut both = Both::new(seed, sheet(seed, n));
+        let mut random = SplitMix64::new(seed);
+        while both.store.n() > 0 {
+            let rank = random.below(both.store.n());
+            assert_eq!(both.call(Call::Delete { rank, tape: tape(&mut random) })[0], 0);
+        }
+        assert!(both.store == Store::cleared());
     }
 }
 
@@ -151,9 +247,10 @@ fn tapes_that_end() {
         for _ in 0..20 {
             let words = tape(&mut random);
             let rank = random.below(n);
+            let entry = with_bits(&mut random, 9, Bits::SOME);
             for call in [0, 1] {
                 let made = |length: usize| match call {
-                    0 => Call::Insert { rank, entry: 9, tape: words[..length].to_vec() },
+                    0 => Call::Insert { rank, entry, tape: words[..length].to_vec() },
                     _ => Call::Delete { rank, tape: words[..length].to_vec() },
                 };
                 let [_, _, read, _] = Both::new(seed, before.clone()).call(made(words.len()));

@@ -1,10 +1,10 @@
-//! Exact shares of the proved library's own stores: every course of a short
-//! history is tried, by words that decide its faces.
+//! Exact shares of the proved library's own stores, tallies included: every course
+//! of a short history is tried, by words that decide its faces.
 
 use agreement::shares::by_course;
 use agreement::{Call, Lent, Store};
 use reference::coins::{Source, Undecided};
-use reference::places::TIED;
+use reference::places::{RETIRED, TIED};
 use reference::shares::{self, every_course, shares_by_courses, table_of, Course, SheetKey, Table};
 
 /// The call with this tape.
@@ -23,6 +23,7 @@ fn key(store: &Store) -> SheetKey {
     let mut copy = shares::Store::cleared();
     copy.slots.copy_from_slice(&store.slots);
     copy.counts.copy_from_slice(&store.counts);
+    copy.tallies.copy_from_slice(&store.tallies);
     copy.sheet()
 }
 
@@ -77,6 +78,8 @@ fn other_lists_have_other_tables() {
         vec![insert(0, 2), insert(1, 1)],
         vec![insert(0, 1), insert(1, 2), insert(2, 3)],
         vec![insert(0, 1), insert(1, 2), insert(2, 2)],
+        vec![insert(0, 1), insert(1, 2 | RETIRED), insert(2, 3)],
+        vec![insert(0, 1), insert(1, 2), insert(2, 3 | RETIRED)],
     ];
     let tables: Vec<Table> = histories.iter().map(|history| proved_table(history)).collect();
     for (i, table) in tables.iter().enumerate() {
@@ -93,24 +96,44 @@ fn tables_are_those_of_the_rules() {
     }
 }
 
-/// Document 02, F-3: "Layout and shares do not look at the bit." The table of the
-/// same calls without it is the same but for the bits in the sheets.
+/// Document 02, F-3: "Layout and shares do not look at the bit." Nor do they at bit
+/// 62, but for the tallies. The table of the same calls without the bits is the same
+/// but for the bits in the sheets, and its tallies are the counts but for number 0.
 #[test]
-fn shares_do_not_look_at_bit_63() {
-    let inserts = [(0, 1), (1, 2 | TIED), (0, 3 | TIED), (3, 4), (2, 5 | TIED)];
+fn shares_do_not_look_at_the_bits() {
+    let both = TIED | RETIRED;
+    let inserts = [(0, 1 | RETIRED), (1, 2 | TIED), (0, 3 | both), (3, 4), (2, 5 | TIED)];
     let history = |bits: u64| {
         let inserts = inserts.map(|(rank, entry)| insert(rank, entry & bits));
         inserts.into_iter().chain([delete(1)]).collect::<Vec<_>>()
     };
-    let (with, without) = (proved_table(&history(u64::MAX)), proved_table(&history(!TIED)));
+    let (with, without) = (proved_table(&history(u64::MAX)), proved_table(&history(!both)));
     assert!(with == shares_by_courses(&history(u64::MAX)));
     assert!(with != without);
     let bare = with.into_iter().map(|(sheet, share)| {
         let mut store = sheet.store();
-        store.slots.iter_mut().for_each(|slot| *slot &= !TIED);
+        store.slots.iter_mut().for_each(|slot| *slot &= !both);
+        store.tallies = store.counts.clone();
+        store.tallies[0] = 0;
         (store.sheet(), share)
     });
     assert!(table_of(bare) == without);
+}
+
+/// A boat that retires, by delete and insert, leaves no trace of when; one that
+/// retires and is taken back leaves none at all.
+#[test]
+fn retired_boats_leave_no_trace() {
+    let retired = [insert(0, 1), insert(1, 2 | RETIRED), insert(2, 3 | TIED)];
+    let later = [insert(0, 1), insert(1, 2), insert(2, 3 | TIED), delete(1), insert(1, 2 | RETIRED)];
+    let scoring = [insert(0, 1), insert(1, 2), insert(2, 3 | TIED)];
+    let taken_back = [&later[..], &[delete(1), insert(1, 2)]].concat();
+    let tables = [&retired[..], &later, &scoring, &taken_back].map(proved_table);
+    assert!(tables[0] == tables[1]);
+    assert!(tables[2] == tables[3]);
+    assert!(tables[0] != tables[2]);
+    assert!(tables[0] == shares_by_courses(&retired));
+    assert!(tables[2] == shares_by_courses(&scoring));
 }
 
 /// A bent rule is noticed: where the first draw of a call has more than two

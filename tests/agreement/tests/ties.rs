@@ -2,45 +2,12 @@
 //! same list: every pattern of short lists, groups in one leaf and over several,
 //! and the whole sheet one group.
 
-use agreement::histories::with_tie;
+use agreement::histories::{with_bits, Bits};
+use agreement::sheets::Sheets;
 use agreement::stores::rising;
-use agreement::{say, timed, Both, Call, Returned, Store};
+use agreement::{say, Both, Call, Store};
 use reference::places::TIED;
 use reference::random::SplitMix64;
-
-/// A plain and a timed sheet of one list, the same slots and counts.
-struct Sheets {
-    plain: Both,
-    timed: Both<timed::Store>,
-}
-
-impl Sheets {
-    fn new(seed: u64, list: &[u64], m: usize, random: &mut SplitMix64) -> Self {
-        let timed = timed::Store::of_size(list, m, random);
-        let plain = Store { slots: timed.slots.clone(), counts: timed.counts.clone() };
-        Sheets {
-            plain: Both::new(seed, plain),
-            timed: Both::new(seed, timed),
-        }
-    }
-
-    /// Place of a rank, on both sheets.
-    fn place(&mut self, rank: usize) -> Returned {
-        let returned = self.plain.call(Call::Place { rank });
-        assert_eq!(self.timed.call(timed::Call::Place { rank }), returned);
-        returned
-    }
-
-    fn places(&mut self, ranks: impl IntoIterator<Item = usize>) {
-        for rank in ranks {
-            self.place(rank);
-        }
-    }
-
-    fn made(&self) -> u64 {
-        self.plain.made() + self.timed.made()
-    }
-}
 
 /// The list with bit 63 in the entries of which `tied` says so, by their ranks.
 fn tied_where(list: &[u64], tied: impl Fn(usize) -> bool) -> Vec<u64> {
@@ -53,8 +20,8 @@ fn tied_where(list: &[u64], tied: impl Fn(usize) -> bool) -> Vec<u64> {
 fn every_pattern_of_short_lists() {
     let mut random = SplitMix64::new(7100);
     let mut made = 0;
-    for n in 0..=10 {
-        let list = rising(n, 0, &mut random);
+    for n in 0..=8 {
+        let list = rising(n, Bits::NONE, &mut random);
         for pattern in 0..1 << n {
             let list = tied_where(&list, |rank| pattern >> rank & 1 == 1);
             let m = n + random.below(n.max(1));
@@ -72,7 +39,7 @@ fn every_pattern_of_short_lists() {
 fn every_group_of_a_sheet_with_leaves() {
     let mut random = SplitMix64::new(7101);
     let n = 70;
-    let list = rising(n, 0, &mut random);
+    let list = rising(n, Bits::NONE, &mut random);
     let mut made = 0;
     for first in 0..n {
         for last in first..n {
@@ -99,7 +66,7 @@ fn groups_of_long_lists() {
     let mut made = 0;
     for n in [64, 65, 130, 300, 700, 1024] {
         for ties in [0, 8, 14, 15] {
-            let list = rising(n, ties, &mut random);
+            let list = rising(n, Bits::new(ties, 0), &mut random);
             let mut sheets = Sheets::new(7102, &list, n + random.below(n), &mut random);
             sheets.places(0..n);
             made += sheets.made();
@@ -115,7 +82,7 @@ fn groups_over_many_leaves() {
     for _ in 0..20 {
         let n = 1000 + random.below(25);
         let alone = [0; 3].map(|_| random.below(n));
-        let list = tied_where(&rising(n, 0, &mut random), |rank| !alone.contains(&rank));
+        let list = tied_where(&rising(n, Bits::NONE, &mut random), |rank| !alone.contains(&rank));
         let mut sheets = Sheets::new(7103, &list, n + random.below(n), &mut random);
         sheets.places((0..n).step_by(1 + random.below(9)));
         sheets.places(alone);
@@ -129,7 +96,7 @@ fn a_full_sheet_of_one_group() {
     let mut random = SplitMix64::new(7104);
     for m in [1024, 1407, 1408, 2047] {
         for from in [0, 1] {
-            let list = tied_where(&rising(1024, 0, &mut random), |rank| rank >= from);
+            let list = tied_where(&rising(1024, Bits::NONE, &mut random), |rank| rank >= from);
             let mut sheets = Sheets::new(7104, &list, m, &mut random);
             for rank in 0..1024 {
                 assert_eq!(sheets.place(rank), [0, 1, 524_800, 1024], "M {m} rank {rank}");
@@ -139,8 +106,8 @@ fn a_full_sheet_of_one_group() {
     }
 }
 
-/// 2^63 and equal entries with and without the bit, which only a plain sheet can
-/// hold.
+/// 2^63, 2^62 and equal entries with and without the bits, which only a plain sheet
+/// can hold.
 #[test]
 fn entries_of_plain_sheets() {
     let mut random = SplitMix64::new(7105);
@@ -148,7 +115,7 @@ fn entries_of_plain_sheets() {
     both.call(Call::Clear);
     for n in 0..200 {
         let (rank, few) = (random.below(n + 1), random.below(3) as u64);
-        let entry = with_tie(&mut random, few, 14).max(1);
+        let entry = with_bits(&mut random, few, Bits::new(14, 4)).max(1);
         let mut tape = vec![0; 300];
         random.fill(&mut tape);
         assert_eq!(both.call(Call::Insert { rank, entry, tape })[0], 0);

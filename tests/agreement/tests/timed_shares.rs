@@ -1,11 +1,11 @@
-//! Exact shares of the proved library's own timed stores, the third slice
+//! Exact shares of the proved library's own timed stores, tallies and third slice
 //! included: two histories with the same list have the same table, with other
 //! lists other ones.
 
 use agreement::shares::by_course;
 use agreement::timed::{Call, Store};
 use agreement::Lent;
-use reference::places::TIED;
+use reference::places::{RETIRED, TIED};
 use reference::shares::{after_step, every_course, table_of, Course};
 use reference::timed_shares::{self, cleared, shares_by_calls, shares_by_courses, Table, TimedKey};
 
@@ -26,6 +26,7 @@ fn key(store: &Store) -> TimedKey {
     let mut copy = timed_shares::Store::cleared();
     copy.plain.slots.copy_from_slice(&store.slots);
     copy.plain.counts.copy_from_slice(&store.counts);
+    copy.plain.tallies.copy_from_slice(&store.tallies);
     copy.balance.copy_from_slice(&store.balance);
     copy.sheet()
 }
@@ -57,6 +58,7 @@ fn by_calls(history: &[timed_shares::Call]) -> Table {
             let mut store = Store {
                 slots: guide.plain.slots.to_vec(),
                 counts: guide.plain.counts.to_vec(),
+                tallies: guide.plain.tallies.to_vec(),
                 balance: guide.balance.to_vec(),
             };
             step(&mut store, &mut guide, call, course);
@@ -137,23 +139,40 @@ fn lists_with_balance_entries() {
     assert!(by_calls(&other) != table);
 }
 
-/// Document 02, F-3: "Layout and shares do not look at the bit." The table of the
-/// same calls without it is the same but for the bits in slots and third slice.
+/// Document 02, F-3: "Layout and shares do not look at the bit." Nor do they at bit
+/// 62, but for the tallies. The table of the same calls without the bits is the same
+/// but for the bits in slots and third slice, and its tallies are the counts but for
+/// number 0.
 #[test]
-fn shares_do_not_look_at_bit_63() {
+fn shares_do_not_look_at_the_bits() {
+    let both = TIED | RETIRED;
     let history = |bits: u64| {
-        let entries = (101..=134u64).rev().map(|entry| entry | entry << 63);
+        let entries = (101..=134u64).rev().map(|entry| entry | entry << 62);
         let inserts = entries.map(|entry| insert(entry & bits));
-        inserts.chain([insert(9 | TIED & bits), insert(9), delete(5)]).collect::<Vec<_>>()
+        inserts.chain([insert(9 | both & bits), insert(9), delete(5)]).collect::<Vec<_>>()
     };
-    let (with, without) = (by_calls(&history(u64::MAX)), by_calls(&history(!TIED)));
+    let (with, without) = (by_calls(&history(u64::MAX)), by_calls(&history(!both)));
     assert!(with == shares_by_calls(&history(u64::MAX)));
     assert!(with != without);
     let bare = with.into_iter().map(|(sheet, share)| {
         let mut store = sheet.store();
-        store.plain.slots.iter_mut().for_each(|slot| *slot &= !TIED);
-        store.balance.iter_mut().for_each(|word| *word &= !TIED);
+        store.plain.slots.iter_mut().for_each(|slot| *slot &= !both);
+        store.plain.tallies = store.plain.counts.clone();
+        store.plain.tallies[0] = 0;
+        store.balance.iter_mut().for_each(|word| *word &= !both);
         (store.sheet(), share)
     });
     assert!(table_of(bare) == without);
+}
+
+/// A boat that retires, by delete and insert, leaves no trace of when.
+#[test]
+fn retired_boats_leave_no_trace() {
+    let gone = |entry: u64| if entry % 5 == 0 { entry | RETIRED } else { entry };
+    let at_once: Vec<_> = (101..=134).map(|entry| insert(gone(entry))).collect();
+    let mut later: Vec<_> = (101..=134).map(|entry| insert(if entry == 120 { entry } else { gone(entry) })).collect();
+    later.extend([insert(120 | RETIRED), delete(19), find(120), insert(120 | RETIRED), find(120)]);
+    let table = by_calls(&at_once);
+    assert!(by_calls(&later) == table);
+    assert!(shares_by_calls(&at_once) == table);
 }

@@ -1,24 +1,24 @@
-//! The six calls on lent slices (01, "Causes and numbers").
+//! The six calls on lent slices (01, "Causes and numbers"; 02, F-3, F-11).
 
 use crate::coins::{Source, Tape};
-use crate::layout::{sheet_in, Counts, Node, Shape, Sheet, Slots, ROOT};
-use crate::places::{bears_tied, standing, Standing};
+use crate::layout::{sheet_in, Counts, Node, Shape, Sheet, Slots, Tallies, ROOT};
+use crate::places::{standing, Standing};
 use crate::rules::{plan, Change, Plan};
 use crate::sizes::MAX_ENTRIES;
 
 /// Why a call or a line was refused. The first cause in this order decides.
 #[derive(Clone, Copy, Debug, PartialEq, Eq)]
 pub enum Cause {
-    /// Slots not 4,224 or counts not 256; of a timed sheet also a third slice
-    /// not of 256.
+    /// Slots not 4,224, counts not 256 or tallies not 256; of a timed sheet also
+    /// a third slice not of 256.
     Lengths = 1,
-    /// Not a sheet by the rules.
+    /// Not a sheet by the rules, wrong tallies among them.
     NotASheet = 2,
     /// 02, F-1: "the sheet does not rise or the third slice is wrong, placed
-    /// straight after 2". By F-3 also an entry on the sheet that is zero without
-    /// bit 63.
+    /// straight after 2". By F-3 and F-11 also an entry on the sheet that is zero
+    /// without bits 63 and 62.
     NotTimed = 11,
-    /// Entry zero; on a timed sheet zero without bit 63.
+    /// Entry zero; on a timed sheet zero without bits 63 and 62.
     EntryZero = 3,
     /// 02, F-1: "the entry is already there", "after 3".
     Present = 10,
@@ -52,7 +52,7 @@ pub enum Answer {
     /// Read: the number of entries.
     Read { entries: usize },
     /// Place of a rank: the place, the sum of places and the number of boats of
-    /// its tied group.
+    /// its tied group; 0, 0 and 1 of a retired boat.
     Placed { place: usize, sum: usize, t: usize },
     /// Check: N.
     Checked { n: usize },
@@ -98,11 +98,12 @@ impl From<Result<Answer, Cause>> for Answer {
 }
 
 /// "Clear can meet only 1, and makes any contents the empty sheet."
-pub fn clear(slots: &mut [u64], counts: &mut [u16]) -> Answer {
-    match lent_mut(slots, counts) {
-        Ok((slots, counts)) => {
+pub fn clear(slots: &mut [u64], counts: &mut [u16], tallies: &mut [u16]) -> Answer {
+    match lent_mut(slots, counts, tallies) {
+        Ok((slots, counts, tallies)) => {
             slots.fill(0);
             counts.fill(0);
+            tallies.fill(0);
             Answer::Cleared
         }
         Err(cause) => Answer::Refused(cause),
@@ -113,19 +114,26 @@ pub fn clear(slots: &mut [u64], counts: &mut [u16]) -> Answer {
 pub fn insert(
     slots: &mut [u64],
     counts: &mut [u16],
+    tallies: &mut [u16],
     rank: usize,
     entry: u64,
     tape: &[u32],
 ) -> Answer {
     let mut tape = Tape::new(tape);
-    let result = insert_from(slots, counts, rank, entry, &mut tape);
+    let result = insert_from(slots, counts, tallies, rank, entry, &mut tape);
     changed(result, &tape)
 }
 
 /// Deletes the entry at a rank, with coins from the start of `tape`.
-pub fn delete(slots: &mut [u64], counts: &mut [u16], rank: usize, tape: &[u32]) -> Answer {
+pub fn delete(
+    slots: &mut [u64],
+    counts: &mut [u16],
+    tallies: &mut [u16],
+    rank: usize,
+    tape: &[u32],
+) -> Answer {
     let mut tape = Tape::new(tape);
-    let result = delete_from(slots, counts, rank, &mut tape);
+    let result = delete_from(slots, counts, tallies, rank, &mut tape);
     changed(result, &tape)
 }
 
@@ -143,22 +151,36 @@ pub(crate) fn changed(result: Result<usize, Cause>, tape: &Tape) -> Answer {
 pub fn read(
     slots: &[u64],
     counts: &[u16],
+    tallies: &[u16],
     first: usize,
     last: usize,
     output: &mut [u64],
 ) -> Answer {
-    read_entries(slots, counts, first, last, output).into()
+    read_entries(slots, counts, tallies, first, last, output).into()
 }
 
 fn read_entries(
     slots: &[u64],
     counts: &[u16],
+    tallies: &[u16],
     first: usize,
     last: usize,
     output: &mut [u64],
 ) -> Result<Answer, Cause> {
-    let (slots, counts) = lent(slots, counts)?;
-    let sheet = checked(slots, counts)?;
+    let (slots, counts, tallies) = lent(slots, counts, tallies)?;
+    let sheet = checked(slots, counts, tallies)?;
+    read_sheet(&sheet, slots, counts, first, last, output)
+}
+
+/// A read of a sheet.
+pub(crate) fn read_sheet(
+    sheet: &Sheet,
+    slots: &Slots,
+    counts: &Counts,
+    first: usize,
+    last: usize,
+    output: &mut [u64],
+) -> Result<Answer, Cause> {
     if first > last || last >= sheet.n {
         return Err(Cause::Rank);
     }
@@ -171,26 +193,46 @@ fn read_entries(
     Ok(Answer::Read { entries })
 }
 
-/// Place of a rank, by its tied group (02, F-3).
-pub fn place(slots: &[u64], counts: &[u16], rank: usize) -> Answer {
-    place_of_rank(slots, counts, rank).into()
+/// Place of a rank, by its tied group (02, F-3, F-11).
+pub fn place(slots: &[u64], counts: &[u16], tallies: &[u16], rank: usize) -> Answer {
+    place_of_rank(slots, counts, tallies, rank).into()
 }
 
-fn place_of_rank(slots: &[u64], counts: &[u16], rank: usize) -> Result<Answer, Cause> {
-    let (slots, counts) = lent(slots, counts)?;
-    let sheet = checked(slots, counts)?;
+fn place_of_rank(
+    slots: &[u64],
+    counts: &[u16],
+    tallies: &[u16],
+    rank: usize,
+) -> Result<Answer, Cause> {
+    let (slots, counts, tallies) = lent(slots, counts, tallies)?;
+    let sheet = checked(slots, counts, tallies)?;
+    place_on_sheet(&sheet, slots, counts, tallies, rank)
+}
+
+/// The place of a rank of a sheet.
+pub(crate) fn place_on_sheet(
+    sheet: &Sheet,
+    slots: &Slots,
+    counts: &Counts,
+    tallies: &Tallies,
+    rank: usize,
+) -> Result<Answer, Cause> {
     if rank >= sheet.n {
         return Err(Cause::Rank);
     }
-    let list = list(&sheet, slots, counts);
-    let Standing { place, sum, t } = standing(sheet.n, rank, |rank| bears_tied(list[rank]));
+    let list = list(sheet, slots, counts);
+    let scoring_before = |rank| {
+        let shape = &sheet.shape;
+        shape.scoring_before(slots, counts, tallies, rank)
+    };
+    let Standing { place, sum, t } = standing(&list, rank, scoring_before);
     Ok(Answer::Placed { place, sum, t })
 }
 
 /// Whether the store is a sheet, and its length.
-pub fn check(slots: &[u64], counts: &[u16]) -> Answer {
-    lent(slots, counts)
-        .and_then(|(slots, counts)| checked(slots, counts))
+pub fn check(slots: &[u64], counts: &[u16], tallies: &[u16]) -> Answer {
+    lent(slots, counts, tallies)
+        .and_then(|(slots, counts, tallies)| checked(slots, counts, tallies))
         .map(|sheet| Answer::Checked { n: sheet.n })
         .into()
 }
@@ -199,15 +241,27 @@ pub fn check(slots: &[u64], counts: &[u16]) -> Answer {
 pub fn insert_from<S: Source>(
     slots: &mut [u64],
     counts: &mut [u16],
+    tallies: &mut [u16],
     rank: usize,
     entry: u64,
     source: &mut S,
 ) -> Result<usize, Cause> {
-    let (slots, counts) = lent_mut(slots, counts)?;
-    let sheet = checked(slots, counts)?;
+    let (slots, counts, tallies) = lent_mut(slots, counts, tallies)?;
+    let sheet = checked(slots, counts, tallies)?;
     if entry == 0 {
         return Err(Cause::EntryZero);
     }
+    insert_into(&sheet, (slots, counts, tallies), rank, entry, source)
+}
+
+/// An insert of an entry that may stand on this sheet.
+pub(crate) fn insert_into<S: Source>(
+    sheet: &Sheet,
+    (slots, counts, tallies): LentMut,
+    rank: usize,
+    entry: u64,
+    source: &mut S,
+) -> Result<usize, Cause> {
     if rank > sheet.n {
         return Err(Cause::Rank);
     }
@@ -216,7 +270,7 @@ pub fn insert_from<S: Source>(
     }
     let plan =
         plan(&sheet.shape, counts, Change::Insert { rank }, source).map_err(|_| Cause::TapeEnds)?;
-    carry_out(&sheet.shape, &plan, entry, slots, counts);
+    carry_out(&sheet.shape, &plan, entry, (slots, counts, tallies));
     Ok(plan.n())
 }
 
@@ -224,23 +278,34 @@ pub fn insert_from<S: Source>(
 pub fn delete_from<S: Source>(
     slots: &mut [u64],
     counts: &mut [u16],
+    tallies: &mut [u16],
     rank: usize,
     source: &mut S,
 ) -> Result<usize, Cause> {
-    let (slots, counts) = lent_mut(slots, counts)?;
-    let sheet = checked(slots, counts)?;
+    let (slots, counts, tallies) = lent_mut(slots, counts, tallies)?;
+    let sheet = checked(slots, counts, tallies)?;
+    delete_out_of(&sheet, (slots, counts, tallies), rank, source)
+}
+
+/// A delete on a sheet.
+pub(crate) fn delete_out_of<S: Source>(
+    sheet: &Sheet,
+    (slots, counts, tallies): LentMut,
+    rank: usize,
+    source: &mut S,
+) -> Result<usize, Cause> {
     if rank >= sheet.n {
         return Err(Cause::Rank);
     }
     let plan =
         plan(&sheet.shape, counts, Change::Delete { rank }, source).map_err(|_| Cause::TapeEnds)?;
-    carry_out(&sheet.shape, &plan, 0, slots, counts);
+    carry_out(&sheet.shape, &plan, 0, (slots, counts, tallies));
     Ok(plan.n())
 }
 
 /// Writes a plan into the store: the range it names is taken up, changed, and
-/// laid out anew. `entry` is the one an insert brings.
-fn carry_out(old: &Shape, plan: &Plan, entry: u64, slots: &mut Slots, counts: &mut Counts) {
+/// laid out anew. `entry` is the one an insert brings. The tallies follow.
+fn carry_out(old: &Shape, plan: &Plan, entry: u64, (slots, counts, tallies): LentMut) {
     let mut list = [0; MAX_ENTRIES];
     let node = plan.node;
     let n = old.count(counts, node);
@@ -262,32 +327,39 @@ fn carry_out(old: &Shape, plan: &Plan, entry: u64, slots: &mut Slots, counts: &m
     };
     let n = new.count(counts, node);
     new.lay_out(node, slots, counts, &list[..n]);
+    *tallies = new.tallies(slots);
 }
 
-/// The lent slices at their right lengths, or cause 1.
+/// The lent slices at their right lengths.
+pub(crate) type Lent<'a> = (&'a Slots, &'a Counts, &'a Tallies);
+pub(crate) type LentMut<'a> = (&'a mut Slots, &'a mut Counts, &'a mut Tallies);
+
+/// The slices, or cause 1. 02, F-11: "a wrong length cause 1".
 pub(crate) fn lent<'a>(
     slots: &'a [u64],
     counts: &'a [u16],
-) -> Result<(&'a Slots, &'a Counts), Cause> {
-    match (slots.try_into(), counts.try_into()) {
-        (Ok(slots), Ok(counts)) => Ok((slots, counts)),
+    tallies: &'a [u16],
+) -> Result<Lent<'a>, Cause> {
+    match (slots.try_into(), counts.try_into(), tallies.try_into()) {
+        (Ok(slots), Ok(counts), Ok(tallies)) => Ok((slots, counts, tallies)),
         _ => Err(Cause::Lengths),
     }
 }
 
-fn lent_mut<'a>(
+pub(crate) fn lent_mut<'a>(
     slots: &'a mut [u64],
     counts: &'a mut [u16],
-) -> Result<(&'a mut Slots, &'a mut Counts), Cause> {
-    match (slots.try_into(), counts.try_into()) {
-        (Ok(slots), Ok(counts)) => Ok((slots, counts)),
+    tallies: &'a mut [u16],
+) -> Result<LentMut<'a>, Cause> {
+    match (slots.try_into(), counts.try_into(), tallies.try_into()) {
+        (Ok(slots), Ok(counts), Ok(tallies)) => Ok((slots, counts, tallies)),
         _ => Err(Cause::Lengths),
     }
 }
 
 /// The sheet in the store, or cause 2.
-pub(crate) fn checked(slots: &Slots, counts: &Counts) -> Result<Sheet, Cause> {
-    sheet_in(slots, counts).ok_or(Cause::NotASheet)
+pub(crate) fn checked(slots: &Slots, counts: &Counts, tallies: &Tallies) -> Result<Sheet, Cause> {
+    sheet_in(slots, counts, tallies).ok_or(Cause::NotASheet)
 }
 
 /// The entries of a sheet in their order.

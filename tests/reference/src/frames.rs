@@ -1,7 +1,7 @@
-//! The lines of the program (01, "Frames"; 02, F-3).
+//! The lines of the program (01, "Frames"; 02, F-3, F-11).
 
 use crate::calls::{self, Answer, Cause};
-use crate::layout::{Counts, Node, Shape, Slots, COUNTS, SIZE, SLOTS};
+use crate::layout::{Counts, Node, Shape, Slots, Tallies, COUNTS, SIZE, SLOTS, TALLIES};
 use std::io::{self, BufRead, ErrorKind, Write};
 
 /// The most words of a tape line.
@@ -176,6 +176,7 @@ pub fn step(
     line: &[u8],
     slots: &mut [u64],
     counts: &mut [u16],
+    tallies: &mut [u16],
     waiting: &mut Waiting,
     out: &mut Vec<u8>,
 ) {
@@ -188,7 +189,7 @@ pub fn step(
         }
     };
     let mut entries = [0; READ_ENTRIES];
-    let answer = carry_out(&frame, slots, counts, waiting, &mut entries);
+    let answer = carry_out(&frame, slots, counts, tallies, waiting, &mut entries);
     put_head(
         out,
         frame.kind() + 0x80,
@@ -217,22 +218,25 @@ fn carry_out(
     frame: &Frame,
     slots: &mut [u64],
     counts: &mut [u16],
+    tallies: &mut [u16],
     waiting: &mut Waiting,
     entries: &mut [u64; READ_ENTRIES],
 ) -> Answer {
     let answer = match *frame {
-        Frame::Insert { rank, entry } => calls::insert(slots, counts, rank, entry, waiting.words()),
-        Frame::Delete { rank } => calls::delete(slots, counts, rank, waiting.words()),
-        Frame::Read { first, last } => calls::read(slots, counts, first, last, entries),
+        Frame::Insert { rank, entry } => {
+            calls::insert(slots, counts, tallies, rank, entry, waiting.words())
+        }
+        Frame::Delete { rank } => calls::delete(slots, counts, tallies, rank, waiting.words()),
+        Frame::Read { first, last } => calls::read(slots, counts, tallies, first, last, entries),
         Frame::Tape(line) => waiting
             .add(line.words())
             .map(|()| Answer::Checked {
                 n: calls::length(counts),
             })
             .into(),
-        Frame::Print => calls::check(slots, counts),
-        Frame::Clear => calls::clear(slots, counts),
-        Frame::Place { rank } => calls::place(slots, counts, rank),
+        Frame::Print => calls::check(slots, counts, tallies),
+        Frame::Clear => calls::clear(slots, counts, tallies),
+        Frame::Place { rank } => calls::place(slots, counts, tallies, rank),
     };
     // "Words read by an accepted call leave the waiting tape, oldest first."
     if let Answer::Changed { words, .. } = answer {
@@ -284,6 +288,7 @@ fn put(out: &mut Vec<u8>, value: u64, bytes: u32) {
 pub struct Program {
     slots: Box<Slots>,
     counts: Box<Counts>,
+    tallies: Box<Tallies>,
     waiting: Waiting,
 }
 
@@ -293,6 +298,7 @@ impl Program {
         Program {
             slots: Box::new([0; SLOTS]),
             counts: Box::new([0; COUNTS]),
+            tallies: Box::new([0; TALLIES]),
             waiting: Waiting::new(),
         }
     }
@@ -305,6 +311,10 @@ impl Program {
         &self.counts
     }
 
+    pub fn tallies(&self) -> &Tallies {
+        &self.tallies
+    }
+
     pub fn waiting(&self) -> &[u32] {
         self.waiting.words()
     }
@@ -315,6 +325,7 @@ impl Program {
             line,
             &mut self.slots[..],
             &mut self.counts[..],
+            &mut self.tallies[..],
             &mut self.waiting,
             out,
         );

@@ -1,6 +1,8 @@
-//! The store: where entries and counts stand, and whether a store is a sheet.
+//! The store: where entries, counts and tallies stand, and whether a store is a
+//! sheet.
 
 use crate::order::{self, Places};
+use crate::places::scores;
 use crate::sizes::{candidate_positions, Size, Spread, MAX_ENTRIES};
 use std::ops::{BitOr, Range};
 
@@ -8,9 +10,12 @@ use std::ops::{BitOr, Range};
 /// 16 bits."
 pub const SLOTS: usize = 4224;
 pub const COUNTS: usize = 256;
+/// 02, F-11: "a further slice of 256 16-bit numbers".
+pub const TALLIES: usize = 256;
 
 pub type Slots = [u64; SLOTS];
 pub type Counts = [u16; COUNTS];
+pub type Tallies = [u16; TALLIES];
 
 /// 01: "Count 0 holds the size parameter M", "Count 1 is the root range". 02, F-5,
 /// leaves both where they are: "Count 0 stays first", and every tree begins with
@@ -96,6 +101,55 @@ impl Shape {
         counts[usize::from(self.places[node.number])] = n as u16;
     }
 
+    /// The tally of a range, which stands where its count does. 02, F-11: "in the
+    /// order of the counts".
+    pub fn tally(&self, tallies: &Tallies, node: Node) -> usize {
+        usize::from(tallies[usize::from(self.places[node.number])])
+    }
+
+    /// The tallies that belong to these slots. 02, F-11: "Each range gets the number
+    /// of its scoring entries", "its number 0 is zero". Those of a leaf are counted
+    /// in its slots; a range above has those of both its halves.
+    pub fn tallies(&self, slots: &Slots) -> Tallies {
+        let mut tallies = [0; TALLIES];
+        for node in (0..=self.height).rev().flat_map(Node::all_at) {
+            let scoring = if node.depth == self.height {
+                let leaf = &slots[self.slots_under(node)];
+                let scoring = leaf.iter().filter(|&&slot| slot != 0 && scores(slot));
+                scoring.count()
+            } else {
+                self.tally(&tallies, node.left()) + self.tally(&tallies, node.right())
+            };
+            tallies[usize::from(self.places[node.number])] = scoring as u16;
+        }
+        tallies
+    }
+
+    /// The number of the scoring entries before a rank below N. 02, F-11: "found on
+    /// the path down", by the tallies of the left halves that lie before the path.
+    pub fn scoring_before(
+        &self,
+        slots: &Slots,
+        counts: &Counts,
+        tallies: &Tallies,
+        rank: usize,
+    ) -> usize {
+        let (mut node, mut rank, mut scoring) = (Node::ROOT, rank, 0);
+        while node.depth < self.height {
+            let left = node.left();
+            let n = self.count(counts, left);
+            if rank < n {
+                node = left;
+            } else {
+                rank -= n;
+                scoring += self.tally(tallies, left);
+                node = node.right();
+            }
+        }
+        let before = self.entry_slots(node, counts).take(rank);
+        scoring + before.filter(|&slot| scores(slots[slot])).count()
+    }
+
     /// The number of candidates of a range above the leaves.
     pub fn candidates(&self, depth: usize) -> usize {
         self.candidates[depth]
@@ -179,16 +233,29 @@ pub struct Sheet {
     pub n: usize,
 }
 
+impl Sheet {
+    /// The shape and the length that the counts of a sheet tell.
+    pub fn told_by(counts: &Counts) -> Sheet {
+        Sheet {
+            shape: Shape::of(usize::from(counts[SIZE])),
+            n: usize::from(counts[ROOT]),
+        }
+    }
+}
+
 /// The sheet in a store, or none where no list, size and balance entries lay
-/// out exactly this store (01, cause 2).
-pub fn sheet_in(slots: &Slots, counts: &Counts) -> Option<Sheet> {
+/// out exactly this store (01, cause 2). 02, F-11: "A wrong tally is cause 2".
+pub fn sheet_in(slots: &Slots, counts: &Counts, tallies: &Tallies) -> Option<Sheet> {
     let (m, n) = (usize::from(counts[SIZE]), usize::from(counts[ROOT]));
     if n > MAX_ENTRIES || !Size::new(m).allows(n) {
         return None;
     }
-    let shape = Shape::of(m);
-    let sound = counts_are_sound(&shape, counts) && slots_are_sound(&shape, slots, counts);
-    sound.then_some(Sheet { shape, n })
+    let sheet = Sheet::told_by(counts);
+    let shape = &sheet.shape;
+    let sound = counts_are_sound(shape, counts)
+        && slots_are_sound(shape, slots, counts)
+        && *tallies == shape.tallies(slots);
+    sound.then_some(sheet)
 }
 
 /// Each range above the leaves is split at a candidate, and the counts that
@@ -232,6 +299,8 @@ fn all_zero<T: Copy + Default + PartialEq + BitOr<Output = T>>(part: &[T]) -> bo
 #[cfg(test)]
 mod tests {
     use super::*;
+    use crate::places::RETIRED;
+    use crate::random::SplitMix64;
 
     #[test]
     fn ranges_cover_the_leaves_in_order() {
@@ -268,15 +337,45 @@ mod tests {
 
     #[test]
     fn the_empty_store_is_the_only_sheet_without_entries() {
-        let (mut slots, mut counts) = ([0; SLOTS], [0; COUNTS]);
-        assert_eq!(sheet_in(&slots, &counts).unwrap().n, 0);
+        let (mut slots, mut counts, mut tallies) = ([0; SLOTS], [0; COUNTS], [0; TALLIES]);
+        assert_eq!(sheet_in(&slots, &counts, &tallies).unwrap().n, 0);
         slots[0] = 1;
-        assert!(sheet_in(&slots, &counts).is_none());
+        assert!(sheet_in(&slots, &counts, &tallies).is_none());
         slots[0] = 0;
         counts[SIZE] = 1;
-        assert!(sheet_in(&slots, &counts).is_none());
+        assert!(sheet_in(&slots, &counts, &tallies).is_none());
         counts[SIZE] = 0;
         counts[255] = 1;
-        assert!(sheet_in(&slots, &counts).is_none());
+        assert!(sheet_in(&slots, &counts, &tallies).is_none());
+        counts[255] = 0;
+        for number in 0..TALLIES {
+            tallies[number] = 1;
+            assert!(sheet_in(&slots, &counts, &tallies).is_none());
+            tallies[number] = 0;
+        }
+    }
+
+    /// Slots that no leaf uses hold entries too: no tally counts them.
+    #[test]
+    fn tallies_count_the_scoring_entries_of_each_range() {
+        let mut random = SplitMix64::new(1);
+        let slots: Slots = std::array::from_fn(|_| match random.below(3) {
+            0 => 0,
+            _ => random.entry(),
+        });
+        for m in [0, 1, 2, 64, 65, 112, 128, 129, 700, 1407, 1408, 2047] {
+            let shape = Shape::of(m);
+            let mut expected = [0; TALLIES];
+            for range in 1..2 * shape.leaves() {
+                let node = Node {
+                    number: range,
+                    depth: (usize::BITS - 1 - range.leading_zeros()) as usize,
+                };
+                let held = slots[shape.slots_under(node)].iter();
+                let scoring = held.filter(|&&slot| slot != 0 && slot & RETIRED == 0);
+                expected[order::place(range, shape.height + 1)] = scoring.count() as u16;
+            }
+            assert_eq!(shape.tallies(&slots), expected, "M {m}");
+        }
     }
 }

@@ -1,15 +1,16 @@
 //! The packed finishing sheet: a second implementation, to compare the proved
 //! one with. The law is the paper `01-scope.md`, cited here as "01", with the
-//! requests F-1 (timed sheets), F-2 (the leaf rule), F-3 (dead heats) and F-5
-//! (the order of the counts) of `02-change-requests.md`, cited as "02"; every
-//! rule is written as its sentence reads, not in a shortened form.
+//! requests F-1 (timed sheets), F-2 (the leaf rule), F-3 (dead heats), F-5 (the
+//! order of the counts) and F-11 (retired boats) of `02-change-requests.md`, cited
+//! as "02"; every rule is written as its sentence reads, not in a shortened form.
 //!
 //! - [`coins`]: draws, from a tape of words or from given faces
 //! - [`sizes`]: what the size parameter M and the length N decide
 //! - [`order`]: the Van Emde Boas order of the counts
-//! - [`layout`]: where entries and counts stand in the store, and the check
+//! - [`layout`]: where entries, counts and tallies stand in the store, and the
+//!   check
 //! - [`rules`]: the draws of insert and delete, and the counts they lead to
-//! - [`places`]: tied groups, their places and points
+//! - [`places`]: tied groups, their places and points, and retired boats
 //! - [`calls`]: the six calls on lent slices, with causes 1 to 7
 //! - [`timed`]: the seven calls of a timed sheet, with causes 10 and 11
 //! - [`conversions`]: counts from number order to tree order and back

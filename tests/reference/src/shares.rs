@@ -1,8 +1,9 @@
-//! Histories, courses and exact tables of shares (01, "Histories and shares").
+//! Histories, courses and exact tables of shares (01, "Histories and shares"). 02,
+//! F-11: "The new slice is part of the sheet for clause 9", the tallies.
 
-use crate::calls::{self, Answer};
+use crate::calls::{self, Answer, Cause};
 use crate::coins::{Source, Undecided};
-use crate::layout::{Counts, Slots, COUNTS, SLOTS};
+use crate::layout::{Counts, Slots, Tallies, COUNTS, SLOTS, TALLIES};
 use std::collections::BTreeMap;
 use std::ops::{Add, Mul};
 
@@ -187,6 +188,7 @@ pub enum Call {
 pub struct Store {
     pub slots: Box<Slots>,
     pub counts: Box<Counts>,
+    pub tallies: Box<Tallies>,
 }
 
 impl Store {
@@ -195,41 +197,44 @@ impl Store {
         Store {
             slots: Box::new([0; SLOTS]),
             counts: Box::new([0; COUNTS]),
+            tallies: Box::new([0; TALLIES]),
         }
     }
 
     /// Runs one call by faces: its cause number, or 0 where accepted.
     pub fn call<S: Source>(&mut self, call: Call, source: &mut S) -> u8 {
         let (slots, counts) = (&mut self.slots[..], &mut self.counts[..]);
-        let number = |answer: Answer| answer.number();
+        let tallies = &mut self.tallies[..];
+        let changed = |result: Result<usize, Cause>| result.map_or_else(Cause::number, |_| 0);
+        let answered = |answer: Answer| answer.number();
         match call {
-            Call::Clear => number(calls::clear(slots, counts)),
-            Call::Insert { rank, entry } => calls::insert_from(slots, counts, rank, entry, source)
-                .map_or_else(|c| c.number(), |_| 0),
+            Call::Clear => answered(calls::clear(slots, counts, tallies)),
+            Call::Insert { rank, entry } => {
+                let result = calls::insert_from(slots, counts, tallies, rank, entry, source);
+                changed(result)
+            }
             Call::Delete { rank } => {
-                calls::delete_from(slots, counts, rank, source).map_or_else(|c| c.number(), |_| 0)
+                changed(calls::delete_from(slots, counts, tallies, rank, source))
             }
             Call::Read {
                 first,
                 last,
                 output,
-            } => number(calls::read(
-                slots,
-                counts,
-                first,
-                last,
-                &mut vec![0; output],
-            )),
-            Call::Place { rank } => number(calls::place(slots, counts, rank)),
-            Call::Check => number(calls::check(slots, counts)),
+            } => {
+                let output = &mut vec![0; output];
+                answered(calls::read(slots, counts, tallies, first, last, output))
+            }
+            Call::Place { rank } => answered(calls::place(slots, counts, tallies, rank)),
+            Call::Check => answered(calls::check(slots, counts, tallies)),
         }
     }
 
-    /// Every slot and every count, as a key for tables.
+    /// Every slot, every count and every tally, as a key for tables.
     pub fn sheet(&self) -> SheetKey {
         SheetKey {
             slots: without_last_zeros(&self.slots[..]),
             counts: without_last_zeros(&self.counts[..]),
+            tallies: without_last_zeros(&self.tallies[..]),
         }
     }
 }
@@ -238,6 +243,7 @@ impl Store {
 #[derive(Clone, Debug, PartialEq, Eq, PartialOrd, Ord)]
 pub struct SheetKey {
     counts: Vec<u16>,
+    tallies: Vec<u16>,
     slots: Vec<u64>,
 }
 
@@ -247,6 +253,7 @@ impl SheetKey {
         let mut store = Store::cleared();
         store.slots[..self.slots.len()].copy_from_slice(&self.slots);
         store.counts[..self.counts.len()].copy_from_slice(&self.counts);
+        store.tallies[..self.tallies.len()].copy_from_slice(&self.tallies);
         store
     }
 }
@@ -361,6 +368,17 @@ mod tests {
         let mut store = Store::cleared();
         store.slots[4223] = 5;
         store.counts[7] = 3;
+        store.tallies[255] = 2;
         assert_eq!(store.sheet().store(), store);
+    }
+
+    /// Stores that differ in one tally are different sheets.
+    #[test]
+    fn the_tallies_are_part_of_the_sheet() {
+        for number in 0..TALLIES {
+            let mut store = Store::cleared();
+            store.tallies[number] = 1;
+            assert_ne!(store.sheet(), Store::cleared().sheet());
+        }
     }
 }

@@ -1,11 +1,11 @@
-//! Timed sheets (02, F-1, F-3): a sheet whose entries rise strictly, with a third
+//! Timed sheets (02, F-1, F-3, F-11): a sheet whose entries rise strictly, with a third
 //! slice that holds the balance entries as they stand. Rules, layout and coins are
-//! those of a plain sheet: each call here rests on the call of [`calls`].
+//! those of a plain sheet: each call here rests on that of [`calls`].
 
 use crate::calls::{self, list, Answer, Cause};
 use crate::coins::{Source, Tape};
-use crate::layout::{Counts, Node, Sheet, Slots};
-use crate::places::TIED;
+use crate::layout::{Counts, Node, Sheet, Slots, Tallies};
+use crate::places::{RETIRED, TIED};
 use std::cmp::Ordering;
 
 /// 02, F-1: "A third slice of 256 64-bit words".
@@ -13,17 +13,24 @@ pub const BALANCE: usize = 256;
 
 pub type Balance = [u64; BALANCE];
 
-/// 02, F-3: "Timed sheets compare entries without the bit", bit 63.
+/// 02, F-3: "Timed sheets compare entries without the bit", bit 63. 02, F-11, of
+/// bit 62: "like bit 63 it is ignored by timed comparison and by what F-3 says of
+/// zero."
 pub const fn key(entry: u64) -> u64 {
-    entry & !TIED
+    entry & !TIED & !RETIRED
 }
 
 /// Clear can meet only cause 1, and makes any contents the empty timed sheet.
-pub fn clear(slots: &mut [u64], counts: &mut [u16], balance: &mut [u64]) -> Answer {
+pub fn clear(
+    slots: &mut [u64],
+    counts: &mut [u16],
+    tallies: &mut [u16],
+    balance: &mut [u64],
+) -> Answer {
     if balance.len() != BALANCE {
         return Answer::Refused(Cause::Lengths);
     }
-    let answer = calls::clear(slots, counts);
+    let answer = calls::clear(slots, counts, tallies);
     if answer == Answer::Cleared {
         balance.fill(0);
     }
@@ -35,12 +42,13 @@ pub fn clear(slots: &mut [u64], counts: &mut [u16], balance: &mut [u64]) -> Answ
 pub fn insert(
     slots: &mut [u64],
     counts: &mut [u16],
+    tallies: &mut [u16],
     balance: &mut [u64],
     entry: u64,
     tape: &[u32],
 ) -> Answer {
     let mut tape = Tape::new(tape);
-    let result = insert_from(slots, counts, balance, entry, &mut tape);
+    let result = insert_from(slots, counts, tallies, balance, entry, &mut tape);
     calls::changed(result, &tape)
 }
 
@@ -48,48 +56,56 @@ pub fn insert(
 pub fn delete(
     slots: &mut [u64],
     counts: &mut [u16],
+    tallies: &mut [u16],
     balance: &mut [u64],
     rank: usize,
     tape: &[u32],
 ) -> Answer {
     let mut tape = Tape::new(tape);
-    let result = delete_from(slots, counts, balance, rank, &mut tape);
+    let result = delete_from(slots, counts, tallies, balance, rank, &mut tape);
     calls::changed(result, &tape)
 }
 
 /// 02, F-1: "to find the rank of an entry or learn that it is absent."
-pub fn find(slots: &[u64], counts: &[u16], balance: &[u64], entry: u64) -> Answer {
+pub fn find(slots: &[u64], counts: &[u16], tallies: &[u16], balance: &[u64], entry: u64) -> Answer {
     let found = |timed: Timed| match timed.search(given(entry)?) {
         Ok(rank) => Ok(Answer::Found { rank }),
         Err(rank) => Ok(Answer::Absent { rank }),
     };
-    open(slots, counts, balance).and_then(found).into()
+    open(slots, counts, tallies, balance).and_then(found).into()
 }
 
 /// Reads ranks `first` to `last` inclusive into the front of `output`.
 pub fn read(
     slots: &[u64],
     counts: &[u16],
+    tallies: &[u16],
     balance: &[u64],
     first: usize,
     last: usize,
     output: &mut [u64],
 ) -> Answer {
-    open(slots, counts, balance)
-        .map(|_| calls::read(slots, counts, first, last, output))
+    open(slots, counts, tallies, balance)
+        .and_then(|t| calls::read_sheet(&t.sheet, t.slots, t.counts, first, last, output))
         .into()
 }
 
 /// Place of a rank, by its tied group.
-pub fn place(slots: &[u64], counts: &[u16], balance: &[u64], rank: usize) -> Answer {
-    open(slots, counts, balance)
-        .map(|_| calls::place(slots, counts, rank))
+pub fn place(
+    slots: &[u64],
+    counts: &[u16],
+    tallies: &[u16],
+    balance: &[u64],
+    rank: usize,
+) -> Answer {
+    open(slots, counts, tallies, balance)
+        .and_then(|t| calls::place_on_sheet(&t.sheet, t.slots, t.counts, t.tallies, rank))
         .into()
 }
 
 /// Whether the store is a timed sheet, and its length.
-pub fn check(slots: &[u64], counts: &[u16], balance: &[u64]) -> Answer {
-    open(slots, counts, balance)
+pub fn check(slots: &[u64], counts: &[u16], tallies: &[u16], balance: &[u64]) -> Answer {
+    open(slots, counts, tallies, balance)
         .map(|timed| Answer::Checked { n: timed.sheet.n })
         .into()
 }
@@ -98,17 +114,20 @@ pub fn check(slots: &[u64], counts: &[u16], balance: &[u64]) -> Answer {
 pub fn insert_from<S: Source>(
     slots: &mut [u64],
     counts: &mut [u16],
+    tallies: &mut [u16],
     balance: &mut [u64],
     entry: u64,
     source: &mut S,
 ) -> Result<usize, Cause> {
-    let timed = open(slots, counts, balance)?;
+    let timed = open(slots, counts, tallies, balance)?;
     let rank = match timed.search(given(entry)?) {
         Ok(_) => return Err(Cause::Present),
         Err(rank) => rank,
     };
-    let n = calls::insert_from(slots, counts, rank, entry, source)?;
-    balance.copy_from_slice(&balance_entries(slots, counts)?);
+    let sheet = timed.sheet;
+    let (slots, counts, tallies) = calls::lent_mut(slots, counts, tallies)?;
+    let n = calls::insert_into(&sheet, (slots, counts, tallies), rank, entry, source)?;
+    balance.copy_from_slice(&third_slice_in(slots, counts));
     Ok(n)
 }
 
@@ -116,22 +135,24 @@ pub fn insert_from<S: Source>(
 pub fn delete_from<S: Source>(
     slots: &mut [u64],
     counts: &mut [u16],
+    tallies: &mut [u16],
     balance: &mut [u64],
     rank: usize,
     source: &mut S,
 ) -> Result<usize, Cause> {
-    open(slots, counts, balance)?;
-    let n = calls::delete_from(slots, counts, rank, source)?;
-    balance.copy_from_slice(&balance_entries(slots, counts)?);
+    let sheet = open(slots, counts, tallies, balance)?.sheet;
+    let (slots, counts, tallies) = calls::lent_mut(slots, counts, tallies)?;
+    let n = calls::delete_out_of(&sheet, (slots, counts, tallies), rank, source)?;
+    balance.copy_from_slice(&third_slice_in(slots, counts));
     Ok(n)
 }
 
-/// The third slice that belongs to these slots and counts, or the cause 1 or 2
-/// where they are no sheet.
-pub fn balance_entries(slots: &[u64], counts: &[u16]) -> Result<Balance, Cause> {
-    let (slots, counts) = calls::lent(slots, counts)?;
-    let sheet = calls::checked(slots, counts)?;
-    Ok(third_slice(&sheet, counts, &list(&sheet, slots, counts)))
+/// The third slice that belongs to these slots, counts and tallies, or the cause 1
+/// or 2 where they are no sheet.
+pub fn balance_entries(slots: &[u64], counts: &[u16], tallies: &[u16]) -> Result<Balance, Cause> {
+    let (slots, counts, tallies) = calls::lent(slots, counts, tallies)?;
+    calls::checked(slots, counts, tallies)?;
+    Ok(third_slice_in(slots, counts))
 }
 
 /// A store that is a timed sheet.
@@ -139,14 +160,20 @@ struct Timed<'a> {
     sheet: Sheet,
     slots: &'a Slots,
     counts: &'a Counts,
+    tallies: &'a Tallies,
     balance: &'a Balance,
 }
 
 /// The timed sheet in the store, or the cause 1, 2 or 11.
-fn open<'a>(slots: &'a [u64], counts: &'a [u16], balance: &'a [u64]) -> Result<Timed<'a>, Cause> {
+fn open<'a>(
+    slots: &'a [u64],
+    counts: &'a [u16],
+    tallies: &'a [u16],
+    balance: &'a [u64],
+) -> Result<Timed<'a>, Cause> {
     let balance: &Balance = balance.try_into().map_err(|_| Cause::Lengths)?;
-    let (slots, counts) = calls::lent(slots, counts)?;
-    let sheet = calls::checked(slots, counts)?;
+    let (slots, counts, tallies) = calls::lent(slots, counts, tallies)?;
+    let sheet = calls::checked(slots, counts, tallies)?;
     let list = list(&sheet, slots, counts);
     let none_is_zero = list.iter().all(|&entry| key(entry) != 0);
     let rises = list.windows(2).all(|pair| key(pair[0]) < key(pair[1]));
@@ -157,8 +184,15 @@ fn open<'a>(slots: &'a [u64], counts: &'a [u16], balance: &'a [u64]) -> Result<T
         sheet,
         slots,
         counts,
+        tallies,
         balance,
     })
+}
+
+/// The third slice of the sheet that has these slots and counts.
+fn third_slice_in(slots: &Slots, counts: &Counts) -> Balance {
+    let sheet = Sheet::told_by(counts);
+    third_slice(&sheet, counts, &list(&sheet, slots, counts))
 }
 
 /// 02, F-1: the third slice "holds at the number of each range above the leaves
@@ -178,7 +212,8 @@ fn third_slice(sheet: &Sheet, counts: &Counts, list: &[u64]) -> Balance {
 }
 
 /// The entry, or cause 3. 02, F-3: "there an entry must be other than zero
-/// without it: cause 3 where it is given, 11 where it stands on the sheet."
+/// without it: cause 3 where it is given, 11 where it stands on the sheet." By
+/// F-11 without bit 62 as well.
 fn given(entry: u64) -> Result<u64, Cause> {
     match key(entry) {
         0 => Err(Cause::EntryZero),

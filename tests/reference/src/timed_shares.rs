@@ -35,7 +35,7 @@ pub enum Call {
 /// A store of the right lengths.
 #[derive(Clone, Debug, PartialEq, Eq)]
 pub struct Store {
-    /// Slots and counts.
+    /// Slots, counts and tallies.
     pub plain: shares::Store,
     pub balance: Box<Balance>,
 }
@@ -52,32 +52,35 @@ impl Store {
     /// Runs one call by faces: its cause number, or 0 where accepted.
     pub fn call<S: Source>(&mut self, call: Call, source: &mut S) -> u8 {
         let (slots, counts) = (&mut self.plain.slots[..], &mut self.plain.counts[..]);
-        let balance = &mut self.balance[..];
+        let (tallies, balance) = (&mut self.plain.tallies[..], &mut self.balance[..]);
         let changed = |result: Result<usize, Cause>| result.map_or_else(Cause::number, |_| 0);
         let answered = |answer: Answer| answer.number();
         match call {
-            Call::Clear => answered(timed::clear(slots, counts, balance)),
+            Call::Clear => answered(timed::clear(slots, counts, tallies, balance)),
             Call::Insert { entry } => {
-                changed(timed::insert_from(slots, counts, balance, entry, source))
+                let result = timed::insert_from(slots, counts, tallies, balance, entry, source);
+                changed(result)
             }
             Call::Delete { rank } => {
-                changed(timed::delete_from(slots, counts, balance, rank, source))
+                let result = timed::delete_from(slots, counts, tallies, balance, rank, source);
+                changed(result)
             }
-            Call::Find { entry } => answered(timed::find(slots, counts, balance, entry)),
+            Call::Find { entry } => answered(timed::find(slots, counts, tallies, balance, entry)),
             Call::Read {
                 first,
                 last,
                 output,
             } => {
                 let output = &mut vec![0; output];
-                answered(timed::read(slots, counts, balance, first, last, output))
+                let answer = timed::read(slots, counts, tallies, balance, first, last, output);
+                answered(answer)
             }
-            Call::Place { rank } => answered(timed::place(slots, counts, balance, rank)),
-            Call::Check => answered(timed::check(slots, counts, balance)),
+            Call::Place { rank } => answered(timed::place(slots, counts, tallies, balance, rank)),
+            Call::Check => answered(timed::check(slots, counts, tallies, balance)),
         }
     }
 
-    /// Every slot, every count and the whole third slice, as a key for tables.
+    /// The whole store, the third slice included, as a key for tables.
     pub fn sheet(&self) -> TimedKey {
         TimedKey {
             plain: self.plain.sheet(),
@@ -149,6 +152,7 @@ mod tests {
         let mut store = Store::cleared();
         store.plain.slots[4223] = 5;
         store.plain.counts[7] = 3;
+        store.plain.tallies[3] = 2;
         store.balance[255] = 9;
         assert_eq!(store.sheet().store(), store);
     }

@@ -5,22 +5,29 @@ mod common;
 
 use common::*;
 use reference::calls::{self, Answer, Cause};
-use reference::layout::{COUNTS, SLOTS};
+use reference::layout::{COUNTS, SLOTS, TALLIES};
+use reference::places::RETIRED;
 use reference::random::SplitMix64;
 use reference::shares::Store;
 use reference::sizes::Size;
 
 /// What the six calls return on these slices with these arguments; only clear
 /// may change them, and it comes last.
-fn all_calls(slots: &mut [u64], counts: &mut [u16], rank: usize, entry: u64) -> [u8; 6] {
+fn all_calls(
+    slots: &mut [u64],
+    counts: &mut [u16],
+    tallies: &mut [u16],
+    rank: usize,
+    entry: u64,
+) -> [u8; 6] {
     let mut output = [0x55; 2];
     let answers = [
-        calls::insert(slots, counts, rank, entry, &[]),
-        calls::delete(slots, counts, rank, &[]),
-        calls::read(slots, counts, rank, rank + 5, &mut output),
-        calls::place(slots, counts, rank),
-        calls::check(slots, counts),
-        calls::clear(slots, counts),
+        calls::insert(slots, counts, tallies, rank, entry, &[]),
+        calls::delete(slots, counts, tallies, rank, &[]),
+        calls::read(slots, counts, tallies, rank, rank + 5, &mut output),
+        calls::place(slots, counts, tallies, rank),
+        calls::check(slots, counts, tallies),
+        calls::clear(slots, counts, tallies),
     ];
     for answer in answers {
         if answer.number() != 0 {
@@ -33,51 +40,54 @@ fn all_calls(slots: &mut [u64], counts: &mut [u16], rank: usize, entry: u64) -> 
 
 #[test]
 fn cause_1_lengths() {
-    for (slots, counts) in [
-        (SLOTS - 1, COUNTS),
-        (SLOTS + 1, COUNTS),
-        (SLOTS, COUNTS - 1),
-        (SLOTS, COUNTS + 1),
-        (0, COUNTS),
-        (SLOTS, 0),
-        (0, 0),
-        (COUNTS, SLOTS),
+    for (slots, counts, tallies) in [
+        (SLOTS - 1, COUNTS, TALLIES),
+        (SLOTS + 1, COUNTS, TALLIES),
+        (SLOTS, COUNTS - 1, TALLIES),
+        (SLOTS, COUNTS + 1, TALLIES),
+        (SLOTS, COUNTS, TALLIES - 1),
+        (SLOTS, COUNTS, TALLIES + 1),
+        (0, COUNTS, TALLIES),
+        (SLOTS, 0, TALLIES),
+        (SLOTS, COUNTS, 0),
+        (0, 0, 0),
+        (COUNTS, SLOTS, TALLIES),
     ] {
-        let (mut slots, mut counts) = slices(slots, counts);
-        // Not a sheet, entry zero, rank too large: cause 1 comes first.
-        slots.fill(7);
-        counts.fill(7);
-        let before = (slots.clone(), counts.clone());
-        assert_eq!(all_calls(&mut slots, &mut counts, 9, 0), [1; 6]);
-        assert_eq!((slots, counts), before);
+        // Also not a sheet, entry zero, rank too large: cause 1 comes first.
+        for value in [0, 7] {
+            let (mut slots, mut counts, mut tallies) = slices(slots, counts, tallies);
+            slots.fill(value);
+            counts.fill(value as u16);
+            tallies.fill(value as u16);
+            let before = (slots.clone(), counts.clone(), tallies.clone());
+            let numbers = all_calls(&mut slots, &mut counts, &mut tallies, 9, 0);
+            assert_eq!(numbers, [1; 6]);
+            assert_eq!((slots, counts, tallies), before);
+        }
     }
 }
 
 #[test]
 fn cause_2_not_a_sheet() {
-    let (mut slots, mut counts) = full_lengths();
+    let (mut slots, mut counts, mut tallies) = full_lengths();
     slots[100] = 7;
     // Clear makes any contents the empty sheet.
-    assert_eq!(all_calls(&mut slots, &mut counts, 9, 0), [2, 2, 2, 2, 2, 0]);
-    assert_eq!((slots, counts), full_lengths());
+    let numbers = all_calls(&mut slots, &mut counts, &mut tallies, 9, 0);
+    assert_eq!(numbers, [2, 2, 2, 2, 2, 0]);
+    assert_eq!((slots, counts, tallies), full_lengths());
 }
 
 #[test]
 fn cause_2_leaves_the_slices() {
-    let (mut slots, mut counts) = full_lengths();
-    slots.fill(u64::MAX);
-    counts.fill(u16::MAX);
-    let before = (slots.clone(), counts.clone());
+    let mut store = Store::cleared();
+    store.slots.fill(u64::MAX);
+    store.counts.fill(u16::MAX);
+    store.tallies.fill(u16::MAX);
+    let before = store.clone();
     let not_a_sheet = Answer::Refused(Cause::NotASheet);
-    assert_eq!(
-        calls::insert(&mut slots, &mut counts, 0, 1, &[0; 9]),
-        not_a_sheet
-    );
-    assert_eq!(
-        calls::delete(&mut slots, &mut counts, 0, &[0; 9]),
-        not_a_sheet
-    );
-    assert_eq!((slots, counts), before);
+    assert_eq!(insert(&mut store, 0, 1, &[0; 9]), not_a_sheet);
+    assert_eq!(delete(&mut store, 0, &[0; 9]), not_a_sheet);
+    assert_eq!(store, before);
 }
 
 #[test]
@@ -103,15 +113,13 @@ fn cause_4_rank() {
         }
         for beyond in [n, n + 1, usize::MAX] {
             assert_eq!(delete(&mut store, beyond, &[]), refused);
-            let (slots, counts) = (&store.slots[..], &store.counts[..]);
-            assert_eq!(calls::place(slots, counts, beyond), refused);
+            assert_eq!(place_of(&store, beyond), refused);
             // Before cause 6: the output is too short as well.
-            assert_eq!(calls::read(slots, counts, 0, beyond, &mut []), refused);
-            assert_eq!(calls::read(slots, counts, beyond, beyond, &mut []), refused);
-            assert_eq!(calls::read(slots, counts, beyond, 0, &mut [0; 9]), refused);
+            assert_eq!(read(&store, 0, beyond, &mut []), refused);
+            assert_eq!(read(&store, beyond, beyond, &mut []), refused);
+            assert_eq!(read(&store, beyond, 0, &mut [0; 9]), refused);
         }
-        let (slots, counts) = (&store.slots[..], &store.counts[..]);
-        assert_eq!(calls::read(slots, counts, 4, 3, &mut [0; 9]), refused);
+        assert_eq!(read(&store, 4, 3, &mut [0; 9]), refused);
         assert_eq!(store, before);
     }
 }
@@ -133,18 +141,17 @@ fn cause_5_full() {
 #[test]
 fn cause_6_output() {
     let store = sheet_of(70, &mut SplitMix64::new(6));
-    let (slots, counts) = (&store.slots[..], &store.counts[..]);
     for (first, last) in [(0, 0), (0, 69), (30, 40), (69, 69)] {
         let entries = last - first + 1;
         let mut output = vec![0x77; entries - 1];
-        let answer = calls::read(slots, counts, first, last, &mut output);
+        let answer = read(&store, first, last, &mut output);
         assert_eq!(answer, Answer::Refused(Cause::Output));
         assert!(output.iter().all(|&entry| entry == 0x77));
 
         // A longer output keeps its rest.
         for rest in [0, 1, 30] {
             let mut output = vec![0x77; entries + rest];
-            let answer = calls::read(slots, counts, first, last, &mut output);
+            let answer = read(&store, first, last, &mut output);
             assert_eq!(answer, Answer::Read { entries });
             let expected: Vec<u64> = (first as u64 + 1..=last as u64 + 1).collect();
             assert_eq!(output[..entries], expected);
@@ -171,17 +178,16 @@ fn cause_7_tape_ends() {
 #[test]
 fn accepted_answers() {
     let mut store = sheet_of(70, &mut SplitMix64::new(7));
-    let (slots, counts) = (&mut store.slots[..], &mut store.counts[..]);
-    let check = calls::check(slots, counts);
+    let check = check(&store);
     assert_eq!((check.number(), check.values()), (0, [70, 0, 0]));
     for rank in 0..70 {
-        let place = calls::place(slots, counts, rank);
+        let place = place_of(&store, rank);
         let values = [rank + 1, rank + 1, 1];
         assert_eq!((place.number(), place.values()), (0, values));
     }
-    let read = calls::read(slots, counts, 3, 5, &mut [0; 3]);
+    let read = read(&store, 3, 5, &mut [0; 3]);
     assert_eq!((read.number(), read.values()), (0, [3, 0, 0]));
-    let clear = calls::clear(slots, counts);
+    let clear = clear(&mut store);
     assert_eq!((clear.number(), clear.values()), (0, [0, 0, 0]));
     assert_eq!(store, Store::cleared());
 }
@@ -246,7 +252,8 @@ fn cause_2_by_the_leaf_rule_of_01() {
                 assert_eq!(delete(&mut store, 0, &[0; 300]), not_a_sheet);
                 assert!(store == before, "N {n} M {m}");
                 let (slots, counts) = (&mut store.slots[..], &mut store.counts[..]);
-                assert_eq!(all_calls(slots, counts, 0, 5), [2, 2, 2, 2, 2, 0]);
+                let numbers = all_calls(slots, counts, &mut store.tallies[..], 0, 5);
+                assert_eq!(numbers, [2, 2, 2, 2, 2, 0]);
                 refused += 1;
             }
         }
@@ -275,7 +282,7 @@ fn damage(store: &mut Store, random: &mut SplitMix64) {
     let slots = (4 * n(store)).clamp(4, SLOTS);
     let counts = (n(store) / 2).clamp(4, COUNTS);
     for _ in 0..=random.below(2) {
-        match random.below(6) {
+        match random.below(8) {
             0 => store.slots[random.below(slots)] = 0,
             1 => store.slots[random.below(slots)] = random.entry(),
             2 => {
@@ -284,8 +291,21 @@ fn damage(store: &mut Store, random: &mut SplitMix64) {
             }
             3 => store.counts[random.below(counts)] ^= 1,
             4 => store.counts[0] = (store.counts[0] + random.below(5) as u16).saturating_sub(2),
+            5 => store.tallies[random.below(counts)] ^= 1 << random.below(3),
+            6 => retire_or_not(store, random),
             _ => move_a_leaf_entry(store, random),
         }
+    }
+}
+
+/// Turns bit 62 of an entry; at times the tallies follow.
+fn retire_or_not(store: &mut Store, random: &mut SplitMix64) {
+    let mut entries = store.slots.iter_mut().filter(|slot| **slot != 0);
+    if let Some(entry) = entries.nth(random.below(5)) {
+        *entry ^= RETIRED;
+    }
+    if let (Some(again), 0) = (laid_out_again(store), random.below(2)) {
+        store.tallies = again.tallies;
     }
 }
 

@@ -5,7 +5,7 @@
 mod common;
 
 use common::*;
-use reference::calls::{self, Answer, Cause};
+use reference::calls::{Answer, Cause};
 use reference::coins::Tape;
 use reference::conversions::{to_number_order, to_tree_order};
 use reference::layout::COUNTS;
@@ -126,8 +126,8 @@ fn refuse(mut store: Store) {
     let answers = [
         insert(&mut store, 0, 5, &[0; 300]),
         delete(&mut store, 0, &[0; 300]),
-        calls::read(&store.slots[..], &store.counts[..], 0, 0, &mut [0]),
-        calls::place(&store.slots[..], &store.counts[..], 0),
+        read(&store, 0, 0, &mut [0]),
+        place_of(&store, 0),
         check(&store),
     ];
     assert_eq!(answers, [Answer::Refused(Cause::NotASheet); 5]);
@@ -176,14 +176,13 @@ fn readings_give_what_they_gave() {
         let list: Vec<u64> = (0..n).map(|_| random.entry()).collect();
         let m = n + random.below(n);
         let store = in_tree_order(&lay_out_in(Order::Number, &list, m, |_, _, c| c - 1));
-        let (slots, counts) = (&store.slots[..], &store.counts[..]);
         for first in 0..n {
             let last = first + random.below(n - first);
             let mut output = vec![0; last - first + 1];
-            let answer = calls::read(slots, counts, first, last, &mut output);
+            let answer = read(&store, first, last, &mut output);
             assert_eq!(answer.values(), [output.len(), 0, 0]);
             assert_eq!(output, list[first..=last]);
-            let place = calls::place(slots, counts, first);
+            let place = place_of(&store, first);
             assert_eq!(place.values(), values_by_pairs(&list, first));
         }
     }

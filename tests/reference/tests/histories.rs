@@ -4,8 +4,9 @@
 mod common;
 
 use common::*;
-use reference::calls::{self, Answer, Cause};
+use reference::calls::{Answer, Cause};
 use reference::coins::Tape;
+use reference::places::RETIRED;
 use reference::random::SplitMix64;
 use reference::shares::Store;
 
@@ -29,13 +30,17 @@ impl Pair {
         self.model.n()
     }
 
-    /// An insert at a random rank; one entry in three is a common one.
+    /// An insert at a random rank; one entry in three is a common one. Bit 62 is set
+    /// in none, some, most or all of them, by the length.
     fn insert(&mut self) {
-        let rank = self.random.below(self.n() + 1);
+        let n = self.n();
+        let rank = self.random.below(n + 1);
         let entry = match self.random.below(3) {
             0 => 7,
-            _ => self.random.entry(),
+            _ => self.random.entry() & !RETIRED | 1,
         };
+        let retired = self.random.below(16) < [0, 1, 8, 15, 16][n / 16 % 5];
+        let entry = entry | if retired { RETIRED } else { 0 };
         let words = words(&mut self.random, 1024);
         let mut tape = Tape::new(&words);
         let decided = self.model.insert(rank, entry, &mut tape);
@@ -114,8 +119,7 @@ impl Pair {
         let first = self.random.below(n);
         let last = first + self.random.below(n - first);
         let mut output = vec![0; n];
-        let (slots, counts) = (&self.store.slots[..], &self.store.counts[..]);
-        let answer = calls::read(slots, counts, first, last, &mut output);
+        let answer = read(&self.store, first, last, &mut output);
         let entries = last - first + 1;
         assert_eq!(answer, Answer::Read { entries });
         assert_eq!(output[..entries], self.model.list()[first..=last]);
@@ -184,7 +188,7 @@ fn many_seeds_at_many_lengths() {
             let goal = pair.random.below(300);
             pair.go_to(goal);
         }
-        calls::clear(&mut pair.store.slots[..], &mut pair.store.counts[..]);
+        clear(&mut pair.store);
         pair.model.clear();
         pair.go_to(20);
     }

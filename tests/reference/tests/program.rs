@@ -1,10 +1,10 @@
-//! The program (01, "Frames"; 02, F-3), by steps and as it runs.
+//! The program (01, "Frames"; 02, F-3, F-11), by steps and as it runs.
 
 mod common;
 
 use common::*;
 use reference::frames::{frame_kind, run, Program, NO_FRAME};
-use reference::places::TIED;
+use reference::places::{RETIRED, TIED};
 use reference::random::SplitMix64;
 use reference::shares::Store;
 use std::io::{BufReader, Write};
@@ -130,6 +130,7 @@ fn cause_8_keeps_sheet_and_tape() {
     assert_eq!(step(&mut program, tape_line(&[1; 17])), "FF080001\n");
     assert_eq!(program.slots(), before.slots());
     assert_eq!(program.counts(), before.counts());
+    assert_eq!(program.tallies(), before.tallies());
     assert_eq!(program.waiting(), before.waiting());
 }
 
@@ -208,13 +209,13 @@ fn refused_calls_read_no_words() {
     assert_eq!(program.waiting(), [0]);
 }
 
-/// A program that holds the list 1 to `n`, each entry with this bit or none.
-fn program_of(n: u64, bit: u64) -> Program {
+/// A program that holds the list 1 to `n`, each entry with these bits or none.
+fn program_of(n: u64, bits: u64) -> Program {
     let mut program = Program::new();
     for entry in 1..=n {
         let rank = entry - 1;
         loop {
-            let answer = step(&mut program, format!("01{rank:04X}{:016X}", entry | bit));
+            let answer = step(&mut program, format!("01{rank:04X}{:016X}", entry | bits));
             if answer == format!("8100{entry:04X}\n") {
                 break;
             }
@@ -266,6 +267,45 @@ fn places_of_tied_boats() {
     assert_eq!(step(&mut program, "070005"), "87040005\n");
 }
 
+/// 02, F-11: B has retired and bears bit 63, so that C ties with A; D has retired
+/// without it, so that E does not tie with C.
+#[test]
+fn places_of_retired_boats() {
+    let mut program = Program::new();
+    step(&mut program, tape_line(&[12345; 16]));
+    let (b, d) = (RETIRED + TIED + 0xB, RETIRED + 0xD);
+    for (rank, entry) in [0xA, b, TIED + 0xC, d, TIED + 0xE].into_iter().enumerate() {
+        let answer = step(&mut program, format!("01{rank:04X}{entry:016X}"));
+        assert_eq!(answer, format!("8100{:04X}\n", rank + 1));
+    }
+    let (first, retired) = ("870000050001000000030002\n", "870000050000000000000001\n");
+    let last = "870000050003000000030001\n";
+    assert_eq!(
+        places(&mut program, 5),
+        [first, retired, first, retired, last]
+    );
+    // Read and print give the entries as they stand.
+    let entries = "C00000000000000B800000000000000C400000000000000D";
+    let answer = step(&mut program, "0300010003");
+    assert_eq!(answer, format!("83000005{entries}\n"));
+    // Bit 62 alone is an entry.
+    let answer = step(&mut program, "0100004000000000000000");
+    assert_eq!(answer, "81000006\n");
+    assert_eq!(step(&mut program, "070000"), "870000060000000000000001\n");
+    assert_eq!(step(&mut program, "070001"), "870000060001000000030002\n");
+}
+
+/// All 1,024 boats have retired, with bit 63 or without it.
+#[test]
+fn places_of_1024_retired_boats() {
+    for bits in [RETIRED, RETIRED | TIED] {
+        let mut program = program_of(1024, bits);
+        let expected = "870004000000000000000001\n";
+        let places = places(&mut program, 1024);
+        assert!(places.iter().all(|answer| answer == expected));
+    }
+}
+
 /// The sum 524,800 takes more than 2 bytes, and t = 1,024 more than one.
 #[test]
 fn places_of_1024_tied_boats() {
@@ -314,7 +354,7 @@ fn random_lines_and_calls_agree() {
         match random.below(9) {
             0..=2 => {
                 let rank = random.below(n + 2);
-                let entry = random.next_u64() % 50 | random.next_u64() << 63;
+                let entry = random.next_u64() % 50 | random.next_u64() << 62;
                 let answer = insert(&mut store, rank, entry, &waiting);
                 let line = format!("01{rank:04X}{entry:016X}");
                 agree(&mut program, &line, answer, &store, &mut waiting);
@@ -350,6 +390,7 @@ fn random_lines_and_calls_agree() {
         assert_eq!(program.waiting(), waiting);
         assert_eq!(program.slots(), &*store.slots);
         assert_eq!(program.counts(), &*store.counts);
+        assert_eq!(program.tallies(), &*store.tallies);
     }
 }
 

@@ -7,6 +7,7 @@ mod common;
 use common::*;
 use reference::coins::{Source, Undecided};
 use reference::shares::*;
+use std::ops::RangeInclusive;
 
 const fn insert(rank: usize, entry: u64) -> Call {
     Call::Insert { rank, entry }
@@ -32,6 +33,11 @@ fn table_of_list(list: &[u64]) -> Table {
 /// The sheet of a list and M with balance entries drawn from `course`.
 fn sheet_by(list: &[u64], m: usize, course: &mut Course) -> SheetKey {
     lay_out(list, m, |_, _, c| course.draw(c as u64).unwrap() as usize).sheet()
+}
+
+/// The numbers as entries, every third of them of a retired boat.
+fn some_retired(numbers: RangeInclusive<u64>) -> Vec<u64> {
+    numbers.map(|k| k | u64::from(k % 3 == 0) << 62).collect()
 }
 
 fn sum(table: &Table) -> Share {
@@ -179,7 +185,7 @@ fn a_longer_history_by_all_courses() {
 /// Lists whose M reach 65 and more, from N = 33 on.
 #[test]
 fn past_65() {
-    let list: Vec<u64> = (101..=136).collect();
+    let list = some_retired(101..=136);
     let mut at_end = shares_by_calls(&at_the_end(&list[..32]));
     let mut at_front = shares_by_calls(&at_the_front(&list[4..]));
     for done in 33..=36 {
@@ -197,12 +203,13 @@ fn past_65() {
 /// Inserts and deletes at every rank where some M exceed 64.
 #[test]
 fn every_rank_near_34() {
-    let list: Vec<u64> = (201..=234).collect();
+    let list = some_retired(201..=234);
     let table = table_of_list(&list);
     for rank in 0..=list.len() {
+        let entry = 7 | (rank as u64 % 2) << 62;
         let mut longer = list.clone();
-        longer.insert(rank, 7);
-        let after_insert = after_call(&table, insert(rank, 7));
+        longer.insert(rank, entry);
+        let after_insert = after_call(&table, insert(rank, entry));
         assert_eq!(after_insert, table_of_list(&longer), "insert at {rank}");
         // Back to the same list and the same table.
         assert_eq!(
@@ -274,7 +281,7 @@ fn after_call_of_size(table: &Table, call: Call) -> Table {
 #[test]
 fn the_walk_keeps_balance_entries_even() {
     for (m, n, step) in [(65, 40, 1), (85, 50, 3), (111, 90, 7), (113, 80, 41)] {
-        let list: Vec<u64> = (1..=n).collect();
+        let list = some_retired(1..=n);
         let table = table_of_size(&list, m);
         for rank in (0..=list.len()).step_by(step) {
             let mut longer = list.clone();

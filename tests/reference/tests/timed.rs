@@ -1,12 +1,12 @@
-//! Timed sheets (02, F-1, F-3): the third slice, find, causes 10 and 11 and their
+//! Timed sheets (02, F-1, F-3, F-11): the third slice, find, causes 10 and 11 and their
 //! places among the others, and that a refused call changes nothing.
 
 mod common;
 
 use common::*;
 use reference::calls::{Answer, Cause};
-use reference::layout::{COUNTS, SLOTS};
-use reference::places::TIED;
+use reference::layout::{COUNTS, SLOTS, TALLIES};
+use reference::places::{RETIRED, TIED};
 use reference::random::SplitMix64;
 use reference::timed::{self, balance_entries, BALANCE};
 use reference::timed_shares::Store;
@@ -34,25 +34,25 @@ fn third_slice(words: &[u64]) -> [u64; BALANCE] {
 /// What the seven calls return on these slices with these arguments: insert,
 /// delete, find, read, place, check, clear. Only clear may change them.
 fn all_calls(
-    slots: &mut [u64],
-    counts: &mut [u16],
-    balance: &mut [u64],
+    (slots, counts, tallies, balance): (&mut [u64], &mut [u16], &mut [u16], &mut [u64]),
     rank: usize,
     entry: u64,
 ) -> [u8; 7] {
-    let before = (slots.to_vec(), counts.to_vec(), balance.to_vec());
-    let mut output = [0x55; 2];
+    let before = (slots.to_vec(), counts.to_vec());
+    let then = (tallies.to_vec(), balance.to_vec());
+    let (last, mut output) = (rank + 5, [0x55; 2]);
     let answers = [
-        timed::insert(slots, counts, balance, entry, &[]),
-        timed::delete(slots, counts, balance, rank, &[]),
-        timed::find(slots, counts, balance, entry),
-        timed::read(slots, counts, balance, rank, rank + 5, &mut output),
-        timed::place(slots, counts, balance, rank),
-        timed::check(slots, counts, balance),
+        timed::insert(slots, counts, tallies, balance, entry, &[]),
+        timed::delete(slots, counts, tallies, balance, rank, &[]),
+        timed::find(slots, counts, tallies, balance, entry),
+        timed::read(slots, counts, tallies, balance, rank, last, &mut output),
+        timed::place(slots, counts, tallies, balance, rank),
+        timed::check(slots, counts, tallies, balance),
     ];
-    assert!(before == (slots.to_vec(), counts.to_vec(), balance.to_vec()));
+    assert!(before == (slots.to_vec(), counts.to_vec()));
+    assert!(then == (tallies.to_vec(), balance.to_vec()));
     assert_eq!(output, [0x55; 2]);
-    let clear = timed::clear(slots, counts, balance);
+    let clear = timed::clear(slots, counts, tallies, balance);
     for answer in answers.into_iter().chain([clear]) {
         assert!(answer.number() == 0 || answer.values() == [0, 0, 0]);
     }
@@ -62,19 +62,16 @@ fn all_calls(
 
 /// The same on a copy of a store, with rank 0 and entry 5.
 fn on_store(store: &Store) -> [u8; 7] {
-    let Store {
-        mut plain,
-        mut balance,
-    } = store.clone();
-    let numbers = all_calls(
-        &mut plain.slots[..],
-        &mut plain.counts[..],
-        &mut balance[..],
-        0,
-        5,
-    );
-    assert!(Store { plain, balance } == Store::cleared());
+    let mut store = store.clone();
+    let numbers = all_calls(slices_of(&mut store), 0, 5);
+    assert!(store == Store::cleared());
     numbers
+}
+
+fn slices_of(store: &mut Store) -> (&mut [u64], &mut [u16], &mut [u16], &mut [u64]) {
+    let Store { plain, balance } = store;
+    let (slots, counts) = (&mut plain.slots[..], &mut plain.counts[..]);
+    (slots, counts, &mut plain.tallies[..], &mut balance[..])
 }
 
 /// All zero where there is one range.
@@ -105,7 +102,11 @@ const OF_34: [u64; 7] = [170, 80, 260, 40, 120, 210, 300];
 fn third_slice_of_size_65() {
     let store = sheet_of_34();
     let (slots, counts) = (&store.plain.slots[..], &store.plain.counts[..]);
-    assert_eq!(balance_entries(slots, counts), Ok(third_slice(&OF_34)));
+    let expected = Ok(third_slice(&OF_34));
+    assert_eq!(
+        balance_entries(slots, counts, &store.plain.tallies[..]),
+        expected
+    );
     assert_eq!(*store.balance, third_slice(&OF_34));
     assert_eq!(timed_check(&store), Answer::Checked { n: 34 });
 }
@@ -196,20 +197,23 @@ fn values_of_find() {
     assert_eq!(numbers, [0, 0]);
 }
 
-/// 63 bits count: times before sail numbers, and not bit 63.
+/// 62 bits count: times before sail numbers, and not bits 63 and 62.
 #[test]
-fn entries_are_compared_without_bit_63() {
-    let half = 1 << 32;
-    let list = [1, half - 1, half, half + 1, 2 * half, TIED / 2, TIED - 2];
-    let absent = [2, half + 2, 2 * half - 1, TIED / 2 + half, TIED - 1];
-    for pattern in 0..1 << list.len() {
-        let store = lay_out_timed(&with_ties(&list, pattern), 8, |_, _, _| 0);
+fn entries_are_compared_without_bits_63_and_62() {
+    let (half, top) = (1 << 32, RETIRED / 2);
+    let list = [1, half - 1, half, half + 1, 2 * half, top, RETIRED - 2];
+    let absent = [2, half + 2, 2 * half - 1, top + half, RETIRED - 1];
+    for pattern in 0..1 << (2 * list.len()) {
+        let store = lay_out_timed(&with_bits(&list, pattern), 8, |_, _, _| 0);
         assert_eq!(timed_check(&store), Answer::Checked { n: 7 });
-        for bit in [0, TIED] {
+        if pattern % 7 != 0 {
+            continue;
+        }
+        for bits in [0, TIED, RETIRED, TIED | RETIRED] {
             for (rank, entry) in list.into_iter().enumerate() {
-                assert_eq!(timed_find(&store, entry | bit), Answer::Found { rank });
+                assert_eq!(timed_find(&store, entry | bits), Answer::Found { rank });
             }
-            let ranks = absent.map(|entry| timed_find(&store, entry | bit));
+            let ranks = absent.map(|entry| timed_find(&store, entry | bits));
             assert_eq!(ranks, [1, 4, 4, 6, 7].map(|rank| Answer::Absent { rank }));
         }
     }
@@ -234,36 +238,54 @@ fn inserts_in_any_order() {
 #[test]
 fn cause_1_lengths() {
     let sizes = [
-        (SLOTS - 1, COUNTS, BALANCE),
-        (SLOTS + 1, COUNTS, BALANCE),
-        (SLOTS, COUNTS - 1, BALANCE),
-        (SLOTS, COUNTS + 1, BALANCE),
-        (SLOTS, COUNTS, BALANCE - 1),
-        (SLOTS, COUNTS, BALANCE + 1),
-        (SLOTS, COUNTS, 0),
-        (SLOTS, COUNTS, SLOTS),
-        (0, 0, 0),
+        (SLOTS - 1, COUNTS, TALLIES, BALANCE),
+        (SLOTS + 1, COUNTS, TALLIES, BALANCE),
+        (SLOTS, COUNTS - 1, TALLIES, BALANCE),
+        (SLOTS, COUNTS + 1, TALLIES, BALANCE),
+        (SLOTS, COUNTS, TALLIES - 1, BALANCE),
+        (SLOTS, COUNTS, TALLIES + 1, BALANCE),
+        (SLOTS, COUNTS, 0, BALANCE),
+        (SLOTS, COUNTS, TALLIES, BALANCE - 1),
+        (SLOTS, COUNTS, TALLIES, BALANCE + 1),
+        (SLOTS, COUNTS, TALLIES, 0),
+        (SLOTS, COUNTS, TALLIES, SLOTS),
+        (0, 0, 0, 0),
     ];
-    for (slots, counts, balance) in sizes {
+    for (slots, counts, tallies, balance) in sizes {
         for value in [0, 7] {
             let mut slots = vec![value; slots];
             let mut counts = vec![value as u16; counts];
+            let mut tallies = vec![value as u16; tallies];
             let mut balance = vec![value; balance];
-            let before = (slots.clone(), counts.clone(), balance.clone());
-            let numbers = all_calls(&mut slots, &mut counts, &mut balance, 9, 0);
-            assert_eq!(numbers, [1; 7]);
-            assert!((slots, counts, balance) == before);
+            let before = (
+                slots.clone(),
+                counts.clone(),
+                tallies.clone(),
+                balance.clone(),
+            );
+            let slices = (
+                &mut slots[..],
+                &mut counts[..],
+                &mut tallies[..],
+                &mut balance[..],
+            );
+            assert_eq!(all_calls(slices, 9, 0), [1; 7]);
+            assert!((slots, counts, tallies, balance) == before);
         }
     }
 }
 
-/// Slots and counts are no sheet, and the third slice is wrong as well.
+/// Slots, counts and tallies are no sheet, and the third slice is wrong as well.
 #[test]
 fn cause_2_before_11() {
     let mut store = sheet_of_34();
     store.plain.counts[255] = 1;
     assert_eq!(on_store(&store), [2, 2, 2, 2, 2, 2, 0]);
     store.balance.fill(3);
+    assert_eq!(on_store(&store), [2, 2, 2, 2, 2, 2, 0]);
+    store.plain.counts[255] = 0;
+    assert_eq!(on_store(&store), [11, 11, 11, 11, 11, 11, 0]);
+    store.plain.tallies[255] = 1;
     assert_eq!(on_store(&store), [2, 2, 2, 2, 2, 2, 0]);
     // The entries fall, and one stands in a gap.
     let mut store = with_third_slice(lay_out(&[3, 2, 1], 5, |_, _, _| 0));
@@ -304,7 +326,7 @@ fn cause_11_where_the_third_slice_is_wrong() {
         let sound = sheet_of_tens(n, &mut random);
         for word in 0..BALANCE {
             let held = sound.balance[word];
-            for wrong in [held ^ 1, held ^ 1 << 63, held + 10, 0, u64::MAX] {
+            for wrong in [held ^ 1, held ^ TIED, held ^ RETIRED, held + 10, 0] {
                 if wrong == held {
                     continue;
                 }
@@ -325,9 +347,7 @@ fn cause_11_where_the_third_slice_is_wrong() {
 fn cause_11_before_3() {
     let mut store = sheet_of_34();
     store.balance[0] = 1;
-    let Store { plain, balance } = &mut store;
-    let (slots, counts) = (&mut plain.slots[..], &mut plain.counts[..]);
-    let numbers = all_calls(slots, counts, &mut balance[..], 99, 0);
+    let numbers = all_calls(slices_of(&mut store), 99, 0);
     assert_eq!(numbers, [11, 11, 11, 11, 11, 11, 0]);
 }
 
@@ -383,11 +403,8 @@ fn causes_4_and_6() {
     let before = store.clone();
     let refused = Answer::Refused(Cause::Rank);
     assert_eq!(timed_delete(&mut store, 34, &[]), refused);
-    let (slots, counts) = (&store.plain.slots[..], &store.plain.counts[..]);
-    let balance = &store.balance[..];
-    assert_eq!(timed::place(slots, counts, balance, 34), refused);
-    let read =
-        |first, last, output: &mut [u64]| timed::read(slots, counts, balance, first, last, output);
+    assert_eq!(timed_place(&store, 34), refused);
+    let read = |first, last, output: &mut [u64]| timed_read(&store, first, last, output);
     assert_eq!(read(0, 34, &mut []), refused);
     assert_eq!(read(4, 3, &mut [0; 9]), refused);
     let mut output = [0x77; 4];
@@ -395,8 +412,7 @@ fn causes_4_and_6() {
     assert_eq!(output, [0x77; 4]);
     assert_eq!(read(31, 33, &mut output), Answer::Read { entries: 3 });
     assert_eq!(output, [320, 330, 340, 0x77]);
-    let place = timed::place(slots, counts, balance, 33);
-    assert_eq!(place.values(), [34, 34, 1]);
+    assert_eq!(timed_place(&store, 33).values(), [34, 34, 1]);
     assert!(store == before);
 }
 
@@ -427,10 +443,11 @@ fn numbers_of_the_causes() {
 
 /// Clear makes any contents the empty timed sheet.
 #[test]
-fn clear_empties_all_three() {
+fn clear_empties_all_slices() {
     let mut store = sheet_of_34();
     store.plain.slots.fill(u64::MAX);
     store.plain.counts.fill(u16::MAX);
+    store.plain.tallies.fill(u16::MAX);
     store.balance.fill(u64::MAX);
     assert_eq!(on_store(&store), [2, 2, 2, 2, 2, 2, 0]);
     assert_eq!(timed_check(&Store::cleared()), Answer::Checked { n: 0 });

@@ -1,4 +1,4 @@
-//! Long random timed histories. After every call all three slices are those that
+//! Long random timed histories. After every call all four slices are those that
 //! the rules over whole lists give (`common::Model`).
 
 mod common;
@@ -31,10 +31,10 @@ impl Pair {
     }
 
     /// A finish: time above, sail number below; few enough that many meet. Every
-    /// second one ties.
+    /// second one ties, every second one has retired.
     fn entry(&mut self) -> u64 {
-        let (time, bit) = (self.random.below(500) as u64, self.random.below(2) as u64);
-        bit << 63 | time << 32 | (1 + self.random.below(6) as u64)
+        let (time, bits) = (self.random.below(500) as u64, self.random.below(4) as u64);
+        bits << 62 | time << 32 | (1 + self.random.below(6) as u64)
     }
 
     /// An insert, refused where an entry of its key is there; find says which.
@@ -89,7 +89,7 @@ impl Pair {
         }
     }
 
-    /// The answer and all three slices are what the model says.
+    /// The answer and all four slices are what the model says.
     fn agree(&mut self, answer: Answer, words: usize) {
         let n = self.n();
         assert_eq!(answer, Answer::Changed { n, words });

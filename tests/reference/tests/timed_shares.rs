@@ -106,13 +106,15 @@ fn past_65() {
     }
 }
 
-/// Inserts and deletes at one rank in three where some M exceed 64.
+/// Inserts and deletes at one rank in three where some M exceed 64; some boats have
+/// retired.
 #[test]
 fn ranks_near_34() {
-    let list: Vec<u64> = (1..=34).map(|k| 10 * k).collect();
+    let boats = (1..=34).map(|k| 10 * k | u64::from(k % 3 == 0) << 62);
+    let list: Vec<u64> = boats.collect();
     let table = table_of_list(&list);
     for rank in (0..=list.len()).step_by(3) {
-        let entry = 10 * rank as u64 + 5;
+        let entry = 10 * rank as u64 + 5 | (rank as u64 % 2) << 62;
         let mut longer = list.clone();
         longer.insert(rank, entry);
         let after_insert = after_call(&table, insert(entry));

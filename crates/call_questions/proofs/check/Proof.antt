@@ -1,6 +1,6 @@
 -- `check` meets its contract.
 use mathlib.Core.Path.{sym, _∙_}
-use Rattle.call_outcomes.specs.Plain.{countOf}
+use Rattle.call_outcomes.specs.PlainCalls.{countOf}
 use Rattle.call_open.specs.ArgumentLaws.{admitted-check}
 use Rattle.call_questions.specs.AnswerLaws.{answers-refused, check-answer}
 use borrow.Author.Needs.{needs}

@@ -6,8 +6,9 @@ use native.Mathlib.Omega.{arith}
 use denote.Ref.{now}
 use lib.ListN.{length}
 use Rattle.store_layout.specs.Room.{CapacityReady}
-use Rattle.call_outcomes.specs.Plain.{readRanks, questionCause, storeOf}
-use Rattle.call_outcomes.specs.PlainLaws.{read-within}
+use Rattle.call_outcomes.specs.PlainCalls.{readRanks, questionCause}
+use Rattle.call_outcomes.specs.Untallied.{storeOf}
+use Rattle.call_outcomes.specs.PlainCallLaws.{read-within}
 use Rattle.call_open.specs.Opening.{admitted, OpenedSheet}
 use Rattle.call_open.specs.declared.Opened.the-variants as opened
 use Rattle.call_open.specs.AdmittedLaws.{found-sheet, found-free}

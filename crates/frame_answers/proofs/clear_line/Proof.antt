@@ -22,11 +22,14 @@ same-length-2 c = search needs
 same-length-3 : tie.Need-same-length-3
 same-length-3 c = search needs
 
+same-length-4 : tie.Need-same-length-4
+same-length-4 c = search needs
+
 returns : tie.Need-returns
 returns c =
     let last = c .before .before in
     let back = last .before .before .before in
-    clear-gives (back .before .before .before .before .before .clear .ensures) (back .returned .ensures) (last .answer .ensures)
+    clear-gives (back .before .before .before .before .before .before .before .clear .ensures) (back .returned .ensures) (last .answer .ensures)
 
 pub clear-line-spec : {M : Type 1} → statement M
 clear-line-spec =
@@ -38,4 +41,5 @@ clear-line-spec =
     same-length
     same-length-2
     same-length-3
+    same-length-4
     returns)

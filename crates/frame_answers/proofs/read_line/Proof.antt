@@ -37,8 +37,8 @@ array-share-prefix-list c =
     let back = c .before .before .before in
     omega (
       arith,
-      read-most _ _ _ _ _ _ _ _ _ _ (back .before .before .read .ensures) (back .returned .ensures) (c .before .before .if1 .left),
-      back .before .before .read .kept .1 .1 .1 .1 .0,
+      read-most _ _ _ _ _ _ _ _ _ _ _ (back .before .before .read .ensures) (back .returned .ensures) (c .before .before .if1 .left),
+      back .before .before .read .kept .1 .1 .1 .1 .1 .0,
     )
 
 slice-aggregate-put-read : tie.Need-slice-aggregate-put-read
@@ -50,7 +50,7 @@ put-read-requires c κs =
       arith,
       slice-aggregate-put-read c,
       array-share-prefix-list (c .before),
-      c .before .before .before .before .before .before .read .kept .1 .1 .1 .1 .0,
+      c .before .before .before .before .before .before .read .kept .1 .1 .1 .1 .1 .0,
     )
 
 same-length-2 : tie.Need-same-length-2

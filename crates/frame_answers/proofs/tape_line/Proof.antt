@@ -21,8 +21,8 @@ returns : tie.Need-returns
 returns c =
     let a = c .before .before in
     let full = a .before .before in
-    let start = full .before .before .before .before .before .before .before in
-    taped-full _ _ _ _ _ _ (omega (arith, full .before .if1 .taken, start .pre .1 .0)) (rw (full .number .ensures) at (a .answer .ensures))
+    let start = full .before .before .before .before .before .before .before .before in
+    taped-full _ _ _ _ _ _ _ (omega (arith, full .before .if1 .taken, start .pre .1 .0)) (rw (full .number .ensures) at (a .answer .ensures))
 
 add-words-requires : tie.Need-add-words-requires
 add-words-requires c κs = search needs
@@ -30,8 +30,8 @@ add-words-requires c κs = search needs
 answer-requires-2 : tie.Need-answer-requires-2
 answer-requires-2 c κs = search needs
 
-add-t11 : tie.Need-add-t11
-add-t11 c = search needs
+add-t12 : tie.Need-add-t12
+add-t12 c = search needs
 
 same-length-2 : tie.Need-same-length-2
 same-length-2 c = search needs
@@ -43,8 +43,8 @@ returns-2 : tie.Need-returns-2
 returns-2 c =
     let last = c .before .before in
     let added = last .before .before .before .before in
-    let start = added .before .before .before .before .before .before .before .before in
-    taped-more _ _ _ _ _ _ (omega (arith, added .before .before .if1 .left, start .pre .1 .0, start .pre .1 .1 .0)) (added .add-words .ensures) (last .answer2 .ensures)
+    let start = added .before .before .before .before .before .before .before .before .before in
+    taped-more _ _ _ _ _ _ _ (omega (arith, added .before .before .if1 .left, start .pre .1 .0, start .pre .1 .1 .0)) (added .add-words .ensures) (last .answer2 .ensures)
 
 pub tape-line-spec : {M : Type 1} → statement M
 tape-line-spec =
@@ -57,7 +57,7 @@ tape-line-spec =
     returns
     add-words-requires
     answer-requires-2
-    add-t11
+    add-t12
     same-length-2
     same-length-3
     returns-2)

@@ -10,8 +10,8 @@ read-off-requires c κs = search needs
 answer-requires : tie.Need-answer-requires
 answer-requires c κs = search needs
 
-sub-t15 : tie.Need-sub-t15
-sub-t15 c = search needs
+sub-t16 : tie.Need-sub-t16
+sub-t16 c = search needs
 
 same-length : tie.Need-same-length
 same-length c = search needs
@@ -22,9 +22,9 @@ same-length-2 c = search needs
 returns : tie.Need-returns
 returns c =
     let last = c .before .before in
-    change-gives _ _ _ _ _ _ _ (last .before .before .before .before .read-off .ensures) (last .answer .ensures)
+    change-gives _ _ _ _ _ _ _ _ (last .before .before .before .before .read-off .ensures) (last .answer .ensures)
 
 pub change-answer-spec : {M : Type 1} → statement M
 change-answer-spec =
     tie.close
-    (tie.spec read-off-requires answer-requires sub-t15 same-length same-length-2 returns)
+    (tie.spec read-off-requires answer-requires sub-t16 same-length same-length-2 returns)

@@ -20,32 +20,35 @@ returned-requires c κs = search needs
 
 change-answer-requires : tie.Need-change-answer-requires
 change-answer-requires c κs =
-    let back = c .before .before .before .before in
-    let made = back .before .before .before .before .before in
-    let given = made .before .before .before .before .before .before .before .before .args in (
-      words-waiting (given .change) (given .entry) _ _ _ _ _ _ _ (made .make-change .ensures) (back .returned .ensures) (search needs),
-      (search needs, search needs),
+    let back = c .before .before .before .before .before in
+    let made = back .before .before .before .before .before .before .before in
+    let start = made .before .before .before .before .before .before .before .before .before .before in (
+      words-waiting (start .args .change) (start .args .entry) _ _ _ _ _ _ _ _ (made .make-change .ensures) (back .returned .ensures) (start .pre .0),
+      start .pre,
     )
 
 same-length : tie.Need-same-length
-same-length c = c .before .before .before .before .before .before .before .before .before .before .before .before .before .before .make-change .kept .0
+same-length c = c .before .before .before .before .before .before .before .before .before .before .before .before .before .before .before .before .before .make-change .kept .0
 
 same-length-2 : tie.Need-same-length-2
-same-length-2 c = c .before .before .before .before .before .before .before .before .before .before .before .before .before .before .make-change .kept .1 .0
+same-length-2 c = c .before .before .before .before .before .before .before .before .before .before .before .before .before .before .before .before .before .make-change .kept .1 .0
 
 same-length-3 : tie.Need-same-length-3
-same-length-3 c = c .before .before .before .before .change-answer .kept .1 .1 .1 .1 .0
+same-length-3 c = c .before .before .before .before .before .before .before .before .before .before .before .before .before .before .before .before .before .make-change .kept .1 .1 .0
 
 same-length-4 : tie.Need-same-length-4
-same-length-4 c = c .before .before .before .before .change-answer .kept .1 .1 .1 .1 .1 .1 .0
+same-length-4 c = c .before .before .before .before .change-answer .kept .1 .1 .1 .1 .1 .0
+
+same-length-5 : tie.Need-same-length-5
+same-length-5 c = c .before .before .before .before .change-answer .kept .1 .1 .1 .1 .1 .1 .1 .0
 
 returns : tie.Need-returns
 returns c =
     let last = c .before .before .before .before in
-    let back = last .before .before .before .before .before in
-    let made = back .before .before .before .before .before in
-    let given = made .before .before .before .before .before .before .before .before .args in
-    changed-gives (given .change) (given .entry) _ _ _ _ _ _ _ (made .make-change .ensures) (back .returned .ensures) _ (last .change-answer .ensures)
+    let back = last .before .before .before .before .before .before in
+    let made = back .before .before .before .before .before .before .before in
+    let given = made .before .before .before .before .before .before .before .before .before .before .args in
+    changed-gives (given .change) (given .entry) _ _ _ _ _ _ _ _ (made .make-change .ensures) (back .returned .ensures) _ (last .change-answer .ensures)
 
 pub change-line-spec : {M : Type 1} → statement M
 change-line-spec =
@@ -60,4 +63,5 @@ change-line-spec =
     same-length-2
     same-length-3
     same-length-4
+    same-length-5
     returns)

@@ -7,7 +7,7 @@ use Rattle.frame_chunks.proofs.answer_line.Statement.{statement}
 use Rattle.frame_chunks.proofs.answer_line.Tie as tie
 
 slice-aggregate-step : tie.Need-slice-aggregate-step
-slice-aggregate-step c = sym (length-take-le _ _ (c .before .before .before .before .before .before .pre .0))
+slice-aggregate-step c = sym (length-take-le _ _ (c .before .before .before .before .before .before .before .pre .0))
 
 sub-step : tie.Need-sub-step
 sub-step c = search needs
@@ -33,11 +33,14 @@ same-length-3 c = search needs
 same-length-4 : tie.Need-same-length-4
 same-length-4 c = search needs
 
+same-length-5 : tie.Need-same-length-5
+same-length-5 c = search needs
+
 returns : tie.Need-returns
 returns c =
-    let s = c .before .before .before .before .before .before .before .before .step in
-    let start = c .before .before .before .before .before .before .before .before .before .before .before .before .before .before .before .before .before .before .before in
-    line-answers _ _ _ _ (start .pre .1 .1) (start .pre .1 .0) (s .kept .1 .1 .1 .1 .1 .0) (s .ensures)
+    let s = c .before .before .before .before .before .before .before .before .before .before .step in
+    let start = c .before .before .before .before .before .before .before .before .before .before .before .before .before .before .before .before .before .before .before .before .before .before .before in
+    line-answers _ _ _ _ (start .pre .1 .1) (start .pre .1 .0) (s .kept .1 .1 .1 .1 .1 .1 .0) (s .ensures)
 
 pub answer-line-spec : {M : Type 1} → statement M
 answer-line-spec =
@@ -52,4 +55,5 @@ answer-line-spec =
     same-length-2
     same-length-3
     same-length-4
+    same-length-5
     returns)

@@ -18,21 +18,21 @@ same-length c = search needs
 returns : tie.Need-returns
 returns c =
     let k = c .before .before .before .before .collect in
-    let start = c .before .before .before .before .before .before .before .before .before .before .before .before in (
+    let start = c .before .before .before .before .before .before .before .before .before .before .before .before .before in (
       answers-open (start .pre .0) (start .pre .1 .0) (k .result) _ (k .kept .1 .1 .0) (k .ensures) (not-true _ (c .if1 .taken)) (omega (arith, start .pre .1 .1)),
       collected-further _ _ _ _ (k .result) _ (k .ensures) (start .pre .1 .0),
     )
 
 answer-line-requires : tie.Need-answer-line-requires
 answer-line-requires c κs =
-    let k = c .before .before .before .before .before .before .before .before .before .collect in
-    let start = c .before .before .before .before .before .before .before .before .before .before .before .before .before .before .before .before .before in
+    let k = c .before .before .before .before .before .before .before .before .before .before .collect in
+    let start = c .before .before .before .before .before .before .before .before .before .before .before .before .before .before .before .before .before .before .before in
     (rw (k .kept .1 .1 .0) (collected-within _ _ _ _ (k .result) _ (k .ensures) (start .pre .0 .line)), (start .pre .0 .tape, start .pre .1 .1))
 
-add-t24 : tie.Need-add-t24
-add-t24 c =
-    let start = c .before .before .before .before .before .before .before .before .before .before .before .before .before .before .before .before .before .before .before .before .before .before .before .before .before .before .before in
-    let a = c .before .before .before .before .before .before .before .before .before .answer-line in
+add-t27 : tie.Need-add-t27
+add-t27 c =
+    let start = c .before .before .before .before .before .before .before .before .before .before .before .before .before .before .before .before .before .before .before .before .before .before .before .before .before .before .before .before .before .before .before in
+    let a = c .before .before .before .before .before .before .before .before .before .before .before .answer-line in
     let room : start .args .before .bytes + a .result .bytes ≤ length (start .args .output .now) = a .ensures .wrote .room in
     search (needs, room)
 
@@ -51,11 +51,14 @@ same-length-5 c = search needs
 same-length-6 : tie.Need-same-length-6
 same-length-6 c = search needs
 
+same-length-7 : tie.Need-same-length-7
+same-length-7 c = search needs
+
 returns-2 : tie.Need-returns-2
 returns-2 c =
-    let k = c .before .before .before .before .before .before .before .before .before .before .before .before .before .before .before .before .before .before .before .collect in
-    let start = c .before .before .before .before .before .before .before .before .before .before .before .before .before .before .before .before .before .before .before .before .before .before .before .before .before .before .before in (
-      answers-ended (start .pre .0) (start .pre .1 .0) (k .result) _ (k .kept .1 .1 .0) (k .ensures) (not-false _ (c .before .before .before .before .before .before .before .before .before .before .before .before .before .before .before .if1 .left)) (c .before .before .before .before .before .before .before .before .before .answer-line .ensures),
+    let k = c .before .before .before .before .before .before .before .before .before .before .before .before .before .before .before .before .before .before .before .before .before .before .collect in
+    let start = c .before .before .before .before .before .before .before .before .before .before .before .before .before .before .before .before .before .before .before .before .before .before .before .before .before .before .before .before .before .before .before in (
+      answers-ended (start .pre .0) (start .pre .1 .0) (k .result) _ (k .kept .1 .1 .0) (k .ensures) (not-false _ (c .before .before .before .before .before .before .before .before .before .before .before .before .before .before .before .before .before .before .if1 .left)) (c .before .before .before .before .before .before .before .before .before .before .before .answer-line .ensures),
       collected-further _ _ _ _ (k .result) _ (k .ensures) (start .pre .1 .0),
     )
 
@@ -67,10 +70,11 @@ answer-next-spec =
     same-length
     returns
     answer-line-requires
-    add-t24
+    add-t27
     same-length-2
     same-length-3
     same-length-4
     same-length-5
     same-length-6
+    same-length-7
     returns-2)

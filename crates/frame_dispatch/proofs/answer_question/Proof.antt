@@ -54,7 +54,7 @@ same-length c = search needs
 returns : tie.Need-returns
 returns c =
     let last = c .before .before in
-    read-replied _ _ (last .before .before .before .frame .given .1) (last .read-line .ensures)
+    read-replied _ _ _ (last .before .before .before .frame .given .1) (last .read-line .ensures)
 
 same-length-2 : tie.Need-same-length-2
 same-length-2 c = search needs
@@ -62,7 +62,7 @@ same-length-2 c = search needs
 returns-2 : tie.Need-returns-2
 returns-2 c =
     let last = c .before .before in
-    print-replied _ _ (last .before .before .enum-told .given .1) (last .print-line .ensures)
+    print-replied _ _ _ (last .before .before .enum-told .given .1) (last .print-line .ensures)
 
 same-length-3 : tie.Need-same-length-3
 same-length-3 c = search needs
@@ -70,7 +70,7 @@ same-length-3 c = search needs
 returns-3 : tie.Need-returns-3
 returns-3 c =
     let last = c .before .before in
-    place-replied _ _ (last .before .before .before .frame2 .given .1) (last .place-line .ensures)
+    place-replied _ _ _ (last .before .before .before .frame2 .given .1) (last .place-line .ensures)
 
 same-length-4 : tie.Need-same-length-4
 same-length-4 c = search needs
@@ -80,7 +80,7 @@ returns-4 c =
     let last = c .before .before in
     let found = last .before .before in
     let rest = found .before in
-    none-replied _ _ (no-frame _ (rest .before .before .before .before .pre .0) (rest .match .keys4)) (rw (found .number .ensures) at (last .answer .ensures))
+    none-replied _ _ _ (no-frame _ (rest .before .before .before .before .before .pre .0) (rest .match .keys4)) (rw (found .number .ensures) at (last .answer .ensures))
 
 pub answer-question-spec : {M : Type 1} → statement M
 answer-question-spec =

@@ -29,9 +29,9 @@ print-sheet-requires : tie.Need-print-sheet-requires
 print-sheet-requires c κs =
     let first = c .before .before .before .before in
     let back = first .before .before in (
-      printable _ _ _ _ _ (back .before .check .ensures) (back .returned .ensures) (c .before .if1 .left),
+      printable _ _ _ _ _ _ (back .before .check .ensures) (back .returned .ensures) (c .before .if1 .left),
       wrote-room (first .answer .ensures) 9 _ (length-brief _ _ _)
-          (omega (arith, print-room _ _ _ _ _ (back .before .check .ensures) (back .returned .ensures) (c .before .if1 .left))),
+          (omega (arith, print-room _ _ _ _ _ _ (back .before .check .ensures) (back .returned .ensures) (c .before .if1 .left))),
     )
 
 same-length-2 : tie.Need-same-length-2

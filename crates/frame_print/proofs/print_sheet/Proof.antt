@@ -2,7 +2,7 @@
 use borrow.Author.Needs.{needs}
 use native.Mathlib.Omega.{arith}
 use denote.Ref.{now}
-use Rattle.call_outcomes.specs.Plain.{storeOf}
+use Rattle.call_outcomes.specs.Untallied.{storeOf}
 use Rattle.frame_replies.specs.WroteLaws.{wrote-room}
 use Rattle.frame_replies.specs.DigitLaws.{length-sheet}
 use Rattle.frame_print.specs.Printed.{leavesMost}
@@ -68,7 +68,7 @@ print-leaves-requires c κs =
     let most = leavesMost (storeOf (now (start .args .slots)) (now (start .args .counts))) in (
       n .slots-fit,
       (
-        omega (arith, n .counts-fit, c .before .before .before .read-counts .kept .1 .0, start .pre .0 .counts-are),
+        omega (arith, n .counts-fit, c .before .before .before .read-counts .kept .1 .1 .0, start .pre .0 .counts-are),
         omega (arith, n .output-fits, wrote-room (put .put-sheet .ensures) 11 most (length-sheet _ _) (omega arith)),
       ),
     )

@@ -17,24 +17,27 @@ slice-write-waiting : tie.Need-slice-write-waiting
 slice-write-waiting c = search needs
 
 same-length : tie.Need-same-length
-same-length c = c .before .before .before .before .before .before .before .before .step .kept .1 .0
+same-length c = c .before .before .before .before .before .before .before .before .before .before .step .kept .1 .0
 
 same-length-2 : tie.Need-same-length-2
-same-length-2 c = c .before .before .before .before .before .before .before .before .step .kept .1 .1 .0
+same-length-2 c = c .before .before .before .before .before .before .before .before .before .before .step .kept .1 .1 .0
 
 same-length-3 : tie.Need-same-length-3
-same-length-3 c = c .before .before .before .before .before .before .before .before .step .kept .1 .1 .1 .0
+same-length-3 c = c .before .before .before .before .before .before .before .before .before .before .step .kept .1 .1 .1 .0
 
 same-length-4 : tie.Need-same-length-4
-same-length-4 c = search needs
+same-length-4 c = c .before .before .before .before .before .before .before .before .before .before .step .kept .1 .1 .1 .1 .0
 
 same-length-5 : tie.Need-same-length-5
-same-length-5 c = c .before .before .before .before .before .before .before .before .step .kept .1 .1 .1 .1 .1 .0
+same-length-5 c = search needs
+
+same-length-6 : tie.Need-same-length-6
+same-length-6 c = c .before .before .before .before .before .before .before .before .before .before .step .kept .1 .1 .1 .1 .1 .1 .0
 
 returns-2 : tie.Need-returns-2
 returns-2 c =
-    let last = c .before .before .before .before .before .before .before .before in
-    frame-step-done _ _ _ _ _ (last .before .before .before .before .before .before .if1 .left) (last .step .ensures)
+    let last = c .before .before .before .before .before .before .before .before .before .before in
+    frame-step-done _ _ _ _ _ (last .before .before .before .before .before .before .before .if1 .left) (last .step .ensures)
 
 pub frame-step-spec : {M : Type 1} → statement M
 frame-step-spec =
@@ -49,4 +52,5 @@ frame-step-spec =
     same-length-3
     same-length-4
     same-length-5
+    same-length-6
     returns-2)

@@ -5,10 +5,10 @@ use Rattle.sheet.proofs.run.Statement.{statement}
 use Rattle.sheet.proofs.run.Tie as tie
 
 abbrev Inv-loop : tie.InvT-loop
-Inv-loop slots₀ counts₀ tape₀ line₀ input₀ output₀ state₀ turns₀ slots counts tape line input output state turns = Within state
+Inv-loop slots₀ counts₀ tallies₀ tape₀ line₀ input₀ output₀ state₀ turns₀ slots counts tallies tape line input output state turns = Within state
 
 abbrev μ-loop : tie.MeasureT-loop
-μ-loop slots₀ counts₀ tape₀ line₀ input₀ output₀ state₀ turns₀ slots counts tape line input output state turns = turns
+μ-loop slots₀ counts₀ tallies₀ tape₀ line₀ input₀ output₀ state₀ turns₀ slots counts tallies tape line input output state turns = turns
 
 loop-holds : tie.Need-loop-holds Inv-loop μ-loop
 loop-holds c = search needs

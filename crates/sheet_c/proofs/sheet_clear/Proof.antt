@@ -25,12 +25,15 @@ same-length-2 c = search needs
 same-length-3 : tie.Need-same-length-3
 same-length-3 c = search needs
 
+same-length-4 : tie.Need-same-length-4
+same-length-4 c = search needs
+
 returns-2 : tie.Need-returns-2
 returns-2 c =
     let hand = c .before .before in
     let back = hand .before .before in
-    let made = back .before .before .before .before .before in
-    handed-done _ _ _ _ _ _ _ (made .before .before .before .if1 .left) (made .clear .ensures) (back .returned .ensures) (hand .hand .ensures)
+    let made = back .before .before .before .before .before .before .before in
+    handed-done _ _ _ _ _ _ _ (made .before .before .before .before .if1 .left) (made .clear .ensures) (back .returned .ensures) (hand .hand .ensures)
 
 pub sheet-clear-spec : {M : Type 1} → statement M
 sheet-clear-spec =
@@ -43,4 +46,5 @@ sheet-clear-spec =
     same-length
     same-length-2
     same-length-3
+    same-length-4
     returns-2)

@@ -1,6 +1,6 @@
 -- `check` meets its contract.
 use mathlib.Core.Path.{refl}
-use Rattle.call_outcomes.specs.Plain.{countOf, writtenFor}
+use Rattle.call_outcomes.specs.PlainCalls.{countOf, writtenFor}
 use Rattle.sheet_calls.specs.QuestionLaws.{answered-outcome}
 use borrow.Author.Needs.{needs}
 use Rattle.sheet_calls.proofs.check.Statement.{statement}

@@ -2,7 +2,8 @@
 use mathlib.Core.Path.{_≡_, refl, sym, _∙_}
 use denote.Ref.{now}
 use Rattle.call_outcomes.specs.Causes.{decision}
-use Rattle.call_outcomes.specs.Plain.{plainChange, changeCause, plain, changing, storeOf}
+use Rattle.call_outcomes.specs.PlainCalls.{plainChange, changeCause, changing}
+use Rattle.call_outcomes.specs.Plain.{plain, plainStoreOf}
 use Rattle.call_outcomes.specs.Clubs.{clubs}
 use Rattle.call_open.specs.Opening.{openedAs}
 use Rattle.call_open.specs.AdmittedLaws.{found-sheet, change-opened, call-admitted, call-refused}
@@ -12,10 +13,11 @@ use Rattle.sheet_calls.proofs.make_change.Tie as tie
 
 -- What is left of the look at the store decides the call.
 left : (c : tie.After-admit-change)
-    → let a = c .before .before .before .before .before .before .before .before .before .args in
-    c .admit-change .result ≡ openedAs (decision (plain clubs) (changing (a .change) (a .entry)) (storeOf (now (a .slots)) (now (a .counts))))
+    → let a = c .before .before .before .before .before .before .before .before .before .before .before .args in
+    c .admit-change .result
+    ≡ openedAs (decision (plain clubs) (changing (a .change) (a .entry)) (plainStoreOf (now (a .slots)) (now (a .counts)) (now (a .tallies))))
 left c =
-    let a = c .before .before .before .before .before .before .before .before .before .args in
+    let a = c .before .before .before .before .before .before .before .before .before .before .before .args in
     let made = plainChange (a .change) (a .entry) in
     change-opened (plain clubs) _ (c .before .before .examine .ensures .found) (changeCause 1024 made) made (λ list. refl) (c .admit-change .ensures)
 
@@ -36,10 +38,9 @@ slice-aggregate-make c = search needs
 
 make-requires : tie.Need-make-requires
 make-requires c κs =
-    let n = c .before .before .before .before in
+    let n = c .before .before .before .before .before in
     let a = n .before .before in
-    let x = a .before .before in
-    let w = x .examine .ensures in
+    let w = a .before .before .examine .ensures in
     record {
       admitted = call-admitted _ _ _ (left a) (n .n .given .1);
       copied = w .copied (found-sheet _ _ (sym (a .admit-change .ensures) ∙ n .n .given .1));
@@ -57,14 +58,20 @@ same-length c = search needs
 same-length-2 : tie.Need-same-length-2
 same-length-2 c = search needs
 
-returns : tie.Need-returns
-returns c = rw (c .answer .ensures) (c .before .before .before .before .before .before .make .ensures)
-
 same-length-3 : tie.Need-same-length-3
 same-length-3 c = search needs
 
+returns : tie.Need-returns
+returns c = rw (c .answer .ensures) (c .before .before .before .before .before .before .before .before .make .ensures)
+
 same-length-4 : tie.Need-same-length-4
 same-length-4 c = search needs
+
+same-length-5 : tie.Need-same-length-5
+same-length-5 c = search needs
+
+same-length-6 : tie.Need-same-length-6
+same-length-6 c = search needs
 
 returns-2 : tie.Need-returns-2
 returns-2 c =
@@ -86,7 +93,9 @@ make-change-spec =
     enum-known-cause
     same-length
     same-length-2
-    returns
     same-length-3
+    returns
     same-length-4
+    same-length-5
+    same-length-6
     returns-2)

@@ -1,7 +1,8 @@
 -- `place` meets its contract.
 use mathlib.Core.Path.{refl}
-use Rattle.call_outcomes.specs.Plain.{placeOf}
-use Rattle.sheet_calls.specs.QuestionLaws.{readable, asked-outcome}
+use lib.ListN.{replicate}
+use Rattle.call_outcomes.specs.PlainCalls.{placeOf}
+use Rattle.sheet_calls.specs.QuestionLaws.{tallied, room-for, asked-outcome}
 use borrow.Author.Needs.{needs}
 use Rattle.sheet_calls.proofs.place.Statement.{statement}
 use Rattle.sheet_calls.proofs.place.Tie as tie
@@ -15,11 +16,18 @@ examine-requires c κs = refl
 slice-aggregate-place : tie.Need-slice-aggregate-place
 slice-aggregate-place c = search needs
 
+slice-aggregate-place-2 : tie.Need-slice-aggregate-place-2
+slice-aggregate-place-2 c = search needs
+
 place-requires : tie.Need-place-requires
-place-requires c κs = readable (c .before .before .examine .ensures)
+place-requires c κs =
+    let x = c .before .before .before in
+    (tallied (x .examine .ensures), room-for (x .examine .ensures) (replicate 256 0) refl)
 
 returns : tie.Need-returns
-returns c = asked-outcome (c .before .before .before .examine .ensures) (placeOf _) _ _ _ _ (c .place .ensures)
+returns c =
+    let p = c .before in
+    asked-outcome (p .before .before .before .before .examine .ensures) (placeOf _) _ _ _ _ (p .place .ensures)
 
 pub place-spec : {M : Type 1} → statement M
 place-spec =
@@ -28,5 +36,6 @@ place-spec =
     slice-aggregate-examine
     examine-requires
     slice-aggregate-place
+    slice-aggregate-place-2
     place-requires
     returns)

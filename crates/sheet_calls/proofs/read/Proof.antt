@@ -1,6 +1,6 @@
 -- `read` meets its contract.
 use mathlib.Core.Path.{refl}
-use Rattle.call_outcomes.specs.Plain.{readRanks}
+use Rattle.call_outcomes.specs.PlainCalls.{readRanks}
 use Rattle.sheet_calls.specs.QuestionLaws.{readable, asked-outcome}
 use borrow.Author.Needs.{needs}
 use Rattle.sheet_calls.proofs.read.Statement.{statement}

@@ -5,10 +5,10 @@ use Rattle.sheet_causes.proofs.fill.Statement.{statement}
 use Rattle.sheet_causes.proofs.fill.Tie as tie
 
 abbrev Inv-loop : tie.InvT-loop
-Inv-loop slots₀ counts₀ tape entry₀ slots counts entry = entry ≤ 1025
+Inv-loop slots₀ counts₀ tallies₀ tape entry₀ slots counts tallies entry = entry ≤ 1025
 
 abbrev μ-loop : tie.MeasureT-loop
-μ-loop slots₀ counts₀ tape entry₀ slots counts entry = 1025 - entry
+μ-loop slots₀ counts₀ tallies₀ tape entry₀ slots counts tallies entry = 1025 - entry
 
 loop-holds : tie.Need-loop-holds Inv-loop μ-loop
 loop-holds c = search needs

@@ -49,8 +49,8 @@ copy-out-requires : tie.Need-copy-out-requires
 copy-out-requires c κs =
     let e = c .before .before .before .before .before .before in
     let read = c .before .before .before .read-counts in (
-      convertible e .lengths ∙ sym (read .kept .1 .0),
-      (omega (arith, read .kept .1 .0), rw (read .ensures) (every-numberOrder _ _ (λ x. x < 2 ^ 16) (small e) (omega arith))),
+      convertible e .lengths ∙ sym (read .kept .1 .1 .0),
+      (omega (arith, read .kept .1 .1 .0), rw (read .ensures) (every-numberOrder _ _ (λ x. x < 2 ^ 16) (small e) (omega arith))),
     )
 
 same-length : tie.Need-same-length

@@ -7,7 +7,7 @@ use lib.Dec.{eqb}
 use lib.ListN.{length, drop}
 use borrow.Author.Needs.{needs}
 use Rattle.base.specs.Lists.{equalLists}
-use Rattle.store_balance.specs.SameLaws.{same-joined, same-joined-all}
+use Rattle.store_zeros.specs.SameLaws.{same-joined, same-joined-all}
 use Rattle.store_balance.proofs.same_words.Statement.{statement}
 use Rattle.store_balance.proofs.same_words.Tie as tie
 

@@ -3,28 +3,22 @@ use Prim.Native.Nat.{_+_, _^_, _≤_, _<_}
 use native.Mathlib.Omega.{arith}
 use borrow.Author.Needs.{needs}
 use denote.Ref.{now}
-use lib.ListN.{length, getD}
+use lib.ListN.{length}
 use lib.Pow.{pow-pos}
 use Rattle.tree_sizes.specs.Sizes.{height}
 use Rattle.store_counts.specs.WholeLaws.{double, levels-below, whole-ready, numbers-read, table-read}
 use Rattle.store_counts.proofs.read_counts.Statement.{statement}
 use Rattle.store_counts.proofs.read_counts.Tie as tie
 
-shared-slice-read-m : tie.Need-shared-slice-read-m
-shared-slice-read-m c = omega (arith, c .before .before .before .pre .1, pow-pos (height (getD (now (c .before .before .before .args .counts)) 0 0)))
-
-cast-m : tie.Need-cast-m
-cast-m c = omega (arith, c .shared-slice-known2 .given 0)
-
 height-requires : tie.Need-height-requires
 height-requires c κs = search needs
 
 -- The tree is inside the slice, and so its levels are few.
-room : (c : tie.After-height) → 2 ^ (c .height .result + 1) ≤ length (now (c .before .before .before .before .args .counts))
-room c = rw (c .height .ensures, double (height (getD (now (c .before .before .before .before .args .counts)) 0 0))) (c .before .before .before .before .pre .1)
+room : (c : tie.After-height) → 2 ^ (c .height .result + 1) ≤ length (now (c .before .before .before .args .counts))
+room c = rw (c .height .ensures, double (height (c .before .before .before .args .size .m))) (c .before .before .before .pre .1)
 
 below : (c : tie.After-height) → c .height .result + 1 < 64
-below c = rw (c .height .ensures) (levels-below _ (c .before .before .before .before .pre .1) (omega arith))
+below c = rw (c .height .ensures) (levels-below _ (c .before .before .before .pre .1) (omega arith))
 
 add-levels : tie.Need-add-levels
 add-levels c = omega (arith, below c)
@@ -34,7 +28,7 @@ power-requires c κs = below c
 
 read-rest-requires : tie.Need-read-rest-requires
 read-rest-requires c κs = (
-  c .before .before .before .before .before .before .pre .0,
+  c .before .before .before .before .before .pre .0,
   (rw (c .before .power .ensures) (pow-pos _), rw (c .before .power .ensures) (room (c .before .before))),
 )
 
@@ -46,7 +40,7 @@ read-table-requires c κs =
 read-tree-requires : tie.Need-read-tree-requires
 read-tree-requires c κs =
     let rest = c .before .before .before .before .read-rest .ensures in
-    whole-ready _ (rw (c .before .before .before .before .before .before .before .height .ensures) (c .before .before .before .before .before .before .before .before .before .before .before .pre .1)) (rest .same-length) (omega arith)
+    whole-ready _ (rw (c .before .before .before .before .before .before .before .height .ensures) (c .before .before .before .before .before .before .before .before .before .before .pre .1)) (rest .same-length) (omega arith)
 
 same-length : tie.Need-same-length
 same-length c = search needs
@@ -68,8 +62,6 @@ pub read-counts-spec : {M : Type 1} → statement M
 read-counts-spec =
     tie.close
     (tie.spec
-    shared-slice-read-m
-    cast-m
     height-requires
     add-levels
     power-requires

@@ -4,28 +4,22 @@ use Prim.Native.Nat.{_+_, _^_, _≤_, _<_}
 use native.Mathlib.Omega.{arith}
 use borrow.Author.Needs.{needs}
 use denote.Ref.{now}
-use lib.ListN.{length, getD}
+use lib.ListN.{length}
 use lib.Pow.{pow-pos}
 use Rattle.tree_sizes.specs.Sizes.{height}
 use Rattle.store_counts.specs.WholeLaws.{double, levels-below, whole-ready, places-written, table-written}
 use Rattle.store_counts.proofs.write_counts.Statement.{statement}
 use Rattle.store_counts.proofs.write_counts.Tie as tie
 
-shared-slice-read-m : tie.Need-shared-slice-read-m
-shared-slice-read-m c = omega (arith, c .before .before .before .pre .1 .1, pow-pos (height (getD (now (c .before .before .before .args .work)) 0 0)))
-
-cast-m : tie.Need-cast-m
-cast-m c = omega (arith, c .shared-slice-known2 .given 0)
-
 height-requires : tie.Need-height-requires
 height-requires c κs = search needs
 
 -- The tree is inside the slice, and so its levels are few.
-room : (c : tie.After-height) → 2 ^ (c .height .result + 1) ≤ length (now (c .before .before .before .before .args .work))
-room c = rw (c .height .ensures, double (height (getD (now (c .before .before .before .before .args .work)) 0 0))) (c .before .before .before .before .pre .1 .1)
+room : (c : tie.After-height) → 2 ^ (c .height .result + 1) ≤ length (now (c .before .before .before .args .work))
+room c = rw (c .height .ensures, double (height (c .before .before .before .args .size .m))) (c .before .before .before .pre .1 .1)
 
 below : (c : tie.After-height) → c .height .result + 1 < 64
-below c = rw (c .height .ensures) (levels-below _ (c .before .before .before .before .pre .1 .1) (omega arith))
+below c = rw (c .height .ensures) (levels-below _ (c .before .before .before .pre .1 .1) (omega arith))
 
 add-levels : tie.Need-add-levels
 add-levels c = omega (arith, below c)
@@ -35,7 +29,7 @@ power-requires c κs = below (c .before)
 
 write-rest-requires : tie.Need-write-rest-requires
 write-rest-requires c κs =
-    let s = c .before .before .before .before .before .before in (
+    let s = c .before .before .before .before .before in (
       s .pre .0,
       ((rw (c .power .ensures) (pow-pos _), rw (c .power .ensures) (room (c .before .before))), s .pre .1 .0),
     )
@@ -43,11 +37,11 @@ write-rest-requires c κs =
 write-table-requires : tie.Need-write-table-requires
 write-table-requires c κs =
     let inside = rw (c .before .if1 .taken) at (room (c .before .before .before .before .before .before .before)) in
-    (rw (c .before .before .before .before .write-rest .ensures .same-length) inside, (inside, c .before .before .before .before .before .before .before .before .before .before .before .pre .1 .0))
+    (rw (c .before .before .before .before .write-rest .ensures .same-length) inside, (inside, c .before .before .before .before .before .before .before .before .before .before .pre .1 .0))
 
 write-tree-requires : tie.Need-write-tree-requires
 write-tree-requires c κs =
-    let s = c .before .before .before .before .before .before .before .before .before .before .before in
+    let s = c .before .before .before .before .before .before .before .before .before .before in
     let rest = c .before .before .before .before .write-rest .ensures in
     (whole-ready _ (rw (c .before .before .before .before .before .before .before .height .ensures, rest .same-length) (s .pre .1 .1)) (sym (rest .same-length)) (omega (arith, rest .same-length)), s .pre .1 .0)
 
@@ -71,8 +65,6 @@ pub write-counts-spec : {M : Type 1} → statement M
 write-counts-spec =
     tie.close
     (tie.spec
-    shared-slice-read-m
-    cast-m
     height-requires
     add-levels
     power-requires

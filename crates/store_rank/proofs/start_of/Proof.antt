@@ -71,8 +71,8 @@ loop-again-2 c =
 power-requires : tie.Need-power-requires Inv-loop μ-loop
 power-requires c κs = omega (arith, height-most (c .before .before .before .before .args .size .m) 32 (omega arith) (omega arith))
 
-sub-leaf : tie.Need-sub-leaf Inv-loop μ-loop
-sub-leaf c =
+sub-before : tie.Need-sub-before Inv-loop μ-loop
+sub-before c =
     let e = c .before in
     omega (arith, descent-leaf (e .before .before .before .before .args .size .m) (ended e), leaves c)
 
@@ -106,7 +106,7 @@ start-of-spec =
     loop-less-2
     loop-again-2
     power-requires
-    sub-leaf
+    sub-before
     leaf-slots-requires
     mul-slot
     returns)

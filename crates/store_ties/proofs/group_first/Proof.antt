@@ -1,88 +1,101 @@
--- `group_first` meets its contract. The loop's invariant: the slots before `at` hold `first` entries, and the group of the rank has the first boat
--- of the group in which the last of them stands.
-use mathlib.Core.Path.{_≡_, sym, _∙_, ap}
-use Prim.Native.Nat.{_-_, _<_}
+-- `group_first` meets its contract. The loop's invariant is `Back`: there are `first` scoring boats before the slot `at`, and the group of the boat
+-- goes on to the last of them where the retired boats behind that one bear the bit.
+use mathlib.Core.Bool.{true, _&&_}
+use mathlib.Core.Logic.{⊎-elim}
+use mathlib.Core.Path.{_≡_, sym, _∙_}
+use Prim.Native.Nat.{_+_, _-_, _<_}
 use native.Mathlib.Omega.{arith}
 use borrow.Author.Needs.{needs}
 use borrow.Author.Tests.{not-true, not-false}
 use denote.Ref.{now}
 use lib.ListN.{getD}
-use Rattle.store_layout.specs.Leaf.{nonzero}
-use Rattle.store_ties.specs.Ties.{tieBit, tiedIn}
-use Rattle.store_ties.specs.Steps.{Before, FirstBefore}
-use Rattle.store_ties.specs.BeforeLaws.{before-most, slot-before, back-empty, back-entry, entry-held}
-use Rattle.store_ties.specs.StepLaws.{first-start, back-tied, back-first, back-zero}
+use Rattle.base.specs.BoolLaws.{and-true, and-false}
+use Rattle.store_ties.specs.Ties.{tieBit}
+use Rattle.store_ties.specs.Steps.{entriesBefore, endTied, Back}
+use Rattle.store_ties.specs.StepLaws.{back-first, back-zero}
+use Rattle.store_ties.specs.WalkLaws.{scores-most, back-start, slot-before, back-empty, back-retired, back-scoring}
 use Rattle.store_ties.proofs.group_first.Statement.{statement}
 use Rattle.store_ties.proofs.group_first.Tie as tie
 
 abbrev Inv-loop : tie.InvT-loop
-Inv-loop slots end rank at₀ first₀ at first = Before slots at first × FirstBefore (tiedIn (nonzero slots)) rank first
+Inv-loop slots slot before at₀ first₀ at first = Back slots before at first (endTied true (entriesBefore slots at))
 
 abbrev μ-loop : tie.MeasureT-loop
-μ-loop slots end rank at₀ first₀ at first = at
+μ-loop slots slot before at₀ first₀ at first = at
+
+add-at : tie.Need-add-at Inv-loop μ-loop
+add-at c = omega (arith, c .before .pre .boat .inside)
 
 add-first : tie.Need-add-first Inv-loop μ-loop
-add-first c = omega (arith, before-most (c .before .pre) .1, c .before .pre .inside)
+add-first c = omega (arith, scores-most (c .before .pre), c .before .pre .boat .inside)
 
 loop-holds : tie.Need-loop-holds Inv-loop μ-loop
-loop-holds c = (c .before .pre, first-start)
+loop-holds c = back-start (c .before .pre)
 
--- The slot that a turn looks at is inside.
+-- The slot that a turn looks at is there.
 inside : (c : tie.In-loop Inv-loop μ-loop) → 0 < c .before .loop .at
-inside c = slot-before (c .before .loop .at) (c .before .loop .inv .0) (omega arith)
+inside c = slot-before (c .before .loop .at) (c .before .loop .inv .passed) (omega arith)
 
 sub-at : tie.Need-sub-at Inv-loop μ-loop
 sub-at c = inside c
 
 mul-last : tie.Need-mul-last Inv-loop μ-loop
-mul-last c = omega (arith, c .before .loop .inv .0 .inside)
+mul-last c = omega (arith, c .before .loop .inv .passed .inside)
 
 shared-slice-read-last : tie.Need-shared-slice-read-last Inv-loop μ-loop
-shared-slice-read-last c = omega (arith, inside (c .before), c .before .before .loop .inv .0 .inside)
+shared-slice-read-last c = omega (arith, inside (c .before), c .before .before .loop .inv .passed .inside)
+
+-- The invariant, by the slot that a turn looks at.
+turn : (c : tie.In-loop Inv-loop μ-loop)
+    → let a = c .before .before .before .args in
+    let at = c .before .loop .at - 1 in
+    Back (now (a .slots)) (a .before) (at + 1) (c .before .loop .first) (endTied true (entriesBefore (now (a .slots)) (at + 1)))
+turn c = let next : c .before .loop .at - 1 + 1 ≡ c .before .loop .at = omega (arith, inside c) in rw next (c .before .loop .inv)
+
+is-retired-requires : tie.Need-is-retired-requires Inv-loop μ-loop
+is-retired-requires c κs = search needs
 
 sub-first : tie.Need-sub-first Inv-loop μ-loop
 sub-first c = search needs
 
+-- Behind the question whether the boat is retired.
+passed : (c : tie.Joined2 Inv-loop μ-loop)
+    → let t = c .before .before .before .before in
+    let a = t .before .before .before .args in
+    let at = t .before .loop .at - 1 in
+    Back (now (a .slots)) (a .before) at (c .if2 .first) (endTied true (entriesBefore (now (a .slots)) at) && tieBit (getD (now (a .slots)) at 0))
+passed c =
+    let k = c .before .is-retired in
+    let t = c .before .before in
+    ⊎-elim
+    (λ w. rw (w .1) (back-scoring (turn (t .before .before)) (omega (arith, t .if1 .taken)) (sym (k .ensures) ∙ not-true (k .result) (w .0 .taken))))
+    (λ w. rw (w .1) (back-retired (turn (t .before .before)) (omega (arith, t .if1 .taken)) (sym (k .ensures) ∙ not-false (k .result) (w .0 .left))))
+    (c .if2 .came)
+
 is-tied-requires : tie.Need-is-tied-requires Inv-loop μ-loop
 is-tied-requires c κs = search needs
 
--- The slot of a turn holds an entry: what stands before it, and that it is the last of the entries before `at`.
-before-entry : (c : tie.Then1 Inv-loop μ-loop)
-    → let h = c .before .before .before .loop in
-    Before (now (c .before .before .before .before .before .args .slots)) (h .at - 1) (h .first - 1)
-before-entry c =
-    let h = c .before .before .before .loop in
-    back-entry (h .at) (h .inv .0) (inside (c .before .before)) (c .if1 .taken) (omega arith)
-
-last-entry : (c : tie.Then1 Inv-loop μ-loop)
-    → let h = c .before .before .before .loop in
-    let slots = now (c .before .before .before .before .before .args .slots) in
-    getD slots (h .at - 1) 0 ≡ getD (nonzero slots) (h .first - 1) 0
-last-entry c = entry-held (before-entry c) (omega (arith, before-most (c .before .before .before .loop .inv .0) .0)) (c .if1 .taken)
-
 returns : tie.Need-returns Inv-loop μ-loop
 returns c =
-    let t = c .before .before in
-    back-first (t .before .before .before .loop .inv .1) (ap tieBit (sym (last-entry t)) ∙ sym (c .before .is-tied .ensures) ∙ not-true (c .before .is-tied .result) (c .if2 .taken))
+    let k = c .before .is-tied in
+    back-first (rw (sym (k .ensures) ∙ not-true (k .result) (c .if3 .taken), and-false) at (passed (c .before .before) .first))
 
 loop-less : tie.Need-loop-less Inv-loop μ-loop
-loop-less c = omega (arith, inside (c .before .before .before .before))
+loop-less c = omega (arith, inside (c .before .before .before .before .before .before))
 
 loop-again : tie.Need-loop-again Inv-loop μ-loop
 loop-again c =
-    let t = c .before .before in
-    (before-entry t, back-tied (t .before .before .before .loop .inv .1) (ap tieBit (sym (last-entry t)) ∙ sym (c .before .is-tied .ensures) ∙ not-false (c .before .is-tied .result) (c .if2 .left)))
+    let k = c .before .is-tied in
+    rw (sym (k .ensures) ∙ not-false (k .result) (c .if3 .left), and-true) at (passed (c .before .before))
 
 loop-less-2 : tie.Need-loop-less-2 Inv-loop μ-loop
 loop-less-2 c = omega (arith, inside (c .before .before))
 
 loop-again-2 : tie.Need-loop-again-2 Inv-loop μ-loop
-loop-again-2 c =
-    let h = c .before .before .before .loop in
-    (back-empty (h .at) (h .inv .0) (inside (c .before .before)) (c .if1 .left), h .inv .1)
+loop-again-2 c = back-empty (turn (c .before .before)) (c .if1 .left)
 
 returns-2 : tie.Need-returns-2 Inv-loop μ-loop
-returns-2 c = back-zero (c .before .loop .inv .1) (omega arith)
+returns-2 c = back-zero _ (c .before .loop .inv .first) (omega arith)
 
 pub group-first-spec : {M : Type 1} → statement M
 group-first-spec =
@@ -90,11 +103,13 @@ group-first-spec =
     (tie.spec
     Inv-loop
     μ-loop
+    add-at
     add-first
     loop-holds
     sub-at
     mul-last
     shared-slice-read-last
+    is-retired-requires
     sub-first
     is-tied-requires
     returns

@@ -28,12 +28,15 @@ same-length-3 c = search needs
 same-length-4 : tie.Need-same-length-4
 same-length-4 c = search needs
 
+same-length-5 : tie.Need-same-length-5
+same-length-5 c = search needs
+
 returns-2 : tie.Need-returns-2
 returns-2 c =
     let hand = c .before .before in
     let back = hand .before .before in
-    let made = back .before .before .before .before .before .before .before in
-    handed-done _ _ _ _ _ _ _ (made .before .before .before .before .if1 .left) (made .clear .ensures) (back .returned .ensures) (hand .hand .ensures)
+    let made = back .before .before .before .before .before .before .before .before .before in
+    handed-done _ _ _ _ _ _ _ (made .before .before .before .before .before .if1 .left) (made .clear .ensures) (back .returned .ensures) (hand .hand .ensures)
 
 pub timed-clear-spec : {M : Type 1} → statement M
 timed-clear-spec =
@@ -47,4 +50,5 @@ timed-clear-spec =
     same-length-2
     same-length-3
     same-length-4
+    same-length-5
     returns-2)

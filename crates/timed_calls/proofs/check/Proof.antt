@@ -1,6 +1,6 @@
 -- `check` meets its contract.
 use mathlib.Core.Path.{refl}
-use Rattle.call_outcomes.specs.Plain.{countOf, writtenFor}
+use Rattle.call_outcomes.specs.PlainCalls.{countOf, writtenFor}
 use Rattle.timed_calls.specs.QuestionLaws.{answered-outcome}
 use borrow.Author.Needs.{needs}
 use Rattle.timed_calls.proofs.check.Statement.{statement}
@@ -10,7 +10,7 @@ slice-aggregate-examine : tie.Need-slice-aggregate-examine
 slice-aggregate-examine c = search needs
 
 examine-requires : tie.Need-examine-requires
-examine-requires c κs = refl
+examine-requires c κs = search needs
 
 check-requires : tie.Need-check-requires
 check-requires c κs = search needs

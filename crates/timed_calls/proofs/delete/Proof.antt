@@ -1,13 +1,12 @@
 -- `delete` meets its contract.
-use mathlib.Core.Path.{_≡_, refl, sym, _∙_}
+use mathlib.Core.Path.{_≡_, sym, _∙_}
 use denote.Ref.{now}
 use Rattle.tree_rules.specs.declared.Change.the-variants.{Delete}
 use Rattle.call_outcomes.specs.Causes.{accept, decision}
 use Rattle.call_outcomes.specs.Clubs.{clubs}
-use Rattle.call_open.specs.AdmittedLaws.{found-sheet, found-free, call-refused}
-use Rattle.call_timed.specs.Timed.{deleteRank, timed, delete, timedStoreOf}
-use Rattle.timed_open.specs.TimedOpening.{OpenedTimed}
-use Rattle.timed_calls.specs.SheetLaws.{held}
+use Rattle.call_open.specs.Opening.{OpenedStore}
+use Rattle.call_open.specs.AdmittedLaws.{opened-store, found-sheet, found-free, call-refused}
+use Rattle.call_timed.specs.Timed.{timedView, deleteRank, timed, delete, timedStoreOf, timedNumbers}
 use Rattle.timed_calls.specs.EntryLaws.{change-ready, change-done, delete-decided, delete-opened, delete-plainly}
 use borrow.Author.Needs.{needs}
 use Rattle.timed_calls.proofs.delete.Statement.{statement}
@@ -15,24 +14,24 @@ use Rattle.timed_calls.proofs.delete.Tie as tie
 
 -- The store is a timed sheet with these numbers.
 sheet : (c : tie.After-n)
-    → let a = c .before .before .before .before .before .before .before .before .before .before .before .before .before .args in
-    OpenedTimed clubs (timedStoreOf (now (a .slots)) (now (a .counts)) (now (a .balance))) (c .n .given .0 .0) (c .n .given .0 .1 .0)
-    (c .before .before .before .before .examine .last .1 .1 .1 .0)
+    → let a = c .before .before .before .before .before .before .before .before .before .before .before .before .before .before .before .args in
+    OpenedStore (timedView clubs) timedNumbers (timedStoreOf (now (a .slots)) (now (a .counts)) (now (a .tallies)) (now (a .balance))) (c .n .given .0 .0)
+    (c .n .given .0 .1 .0) (c .before .before .before .before .examine .last .1 .1 .1 .1 .0)
 sheet c =
     let a = c .before .before in
-    a .before .before .examine .ensures .sheet _ _ (found-sheet _ _ (sym (a .admit-rank .ensures) ∙ c .n .given .1))
+    opened-store (timedView clubs) timedNumbers _ (a .before .before .examine .ensures) _ _ (found-sheet _ _ (sym (a .admit-rank .ensures) ∙ c .n .given .1))
 
 -- No cause before 7 refuses the delete.
 decided : (c : tie.After-n)
-    → let a = c .before .before .before .before .before .before .before .before .before .before .before .before .before .args in
-    decision (timed clubs) (delete (a .rank)) (timedStoreOf (now (a .slots)) (now (a .counts)) (now (a .balance))) ≡ accept (sheet c .contents)
+    → let a = c .before .before .before .before .before .before .before .before .before .before .before .before .before .before .before .args in
+    decision (timed clubs) (delete (a .rank)) (timedStoreOf (now (a .slots)) (now (a .counts)) (now (a .tallies)) (now (a .balance))) ≡ accept (sheet c .contents)
 decided c = delete-decided (sheet c) _ (found-free _ _ (sym (c .before .before .admit-rank .ensures) ∙ c .n .given .1))
 
 slice-aggregate-examine : tie.Need-slice-aggregate-examine
 slice-aggregate-examine c = search needs
 
 examine-requires : tie.Need-examine-requires
-examine-requires c κs = refl
+examine-requires c κs = search needs
 
 admit-rank-requires : tie.Need-admit-rank-requires
 admit-rank-requires c κs = search needs
@@ -45,8 +44,8 @@ slice-aggregate-change c = search needs
 
 change-requires : tie.Need-change-requires
 change-requires c κs =
-    let n = c .before .before .before .before .before in
-    (change-ready (sheet n) (deleteRank _) (Delete _) 0 (delete-plainly _ _) (decided n), held (sheet n) .lengths .balance)
+    let n = c .before .before .before .before .before .before in
+    change-ready (sheet n) (deleteRank _) (Delete _) 0 (delete-plainly _ _) (decided n)
 
 enum-known-cause : tie.Need-enum-known-cause
 enum-known-cause c = search needs
@@ -60,20 +59,26 @@ same-length-2 c = search needs
 same-length-3 : tie.Need-same-length-3
 same-length-3 c = search needs
 
-returns : tie.Need-returns
-returns c =
-    let m = c .before .before .before .before .before .before .before in
-    let n = m .before .before .before .before .before .before in
-    change-done (sheet n) (deleteRank _) (Delete _) 0 (delete-plainly _ _) (decided n) _ (m .change .ensures)
-
 same-length-4 : tie.Need-same-length-4
 same-length-4 c = search needs
+
+returns : tie.Need-returns
+returns c =
+    let m = c .before .before .before .before .before .before .before .before .before in
+    let n = m .before .before .before .before .before .before .before in
+    change-done (sheet n) (deleteRank _) (Delete _) 0 (delete-plainly _ _) (decided n) _ (m .change .ensures)
 
 same-length-5 : tie.Need-same-length-5
 same-length-5 c = search needs
 
 same-length-6 : tie.Need-same-length-6
 same-length-6 c = search needs
+
+same-length-7 : tie.Need-same-length-7
+same-length-7 c = search needs
+
+same-length-8 : tie.Need-same-length-8
+same-length-8 c = search needs
 
 returns-2 : tie.Need-returns-2
 returns-2 c =
@@ -95,8 +100,10 @@ delete-spec =
     same-length
     same-length-2
     same-length-3
-    returns
     same-length-4
+    returns
     same-length-5
     same-length-6
+    same-length-7
+    same-length-8
     returns-2)

@@ -6,8 +6,9 @@ use denote.Ref.{now}
 use Rattle.store_keys.specs.Key.{key}
 use Rattle.call_outcomes.specs.Causes.{lookedAt}
 use Rattle.call_outcomes.specs.Clubs.{clubs}
-use Rattle.call_timed.specs.Timed.{find, timedStoreOf}
-use Rattle.timed_open.specs.TimedOpening.{OpenedTimed}
+use Rattle.call_open.specs.Opening.{OpenedStore}
+use Rattle.call_open.specs.AdmittedLaws.{opened-store}
+use Rattle.call_timed.specs.Timed.{timedView, find, timedStoreOf, timedNumbers}
 use Rattle.timed_calls.specs.SheetLaws.{search-ready}
 use Rattle.timed_calls.specs.EntryLaws.{store-refused, find-zero, find-present, find-absent}
 use borrow.Author.Needs.{needs}
@@ -16,20 +17,20 @@ use Rattle.timed_calls.proofs.find.Tie as tie
 
 -- The store is a timed sheet with these numbers.
 sheet : (c : tie.After-m)
-    → let a = c .before .before .before .before .before .before .before .before .args in
-    OpenedTimed clubs (timedStoreOf (now (a .slots)) (now (a .counts)) (now (a .balance))) (c .m .given .0 .0) (c .m .given .0 .1 .0)
-    (c .before .before .before .examine .last .1 .1 .1 .0)
-sheet c = c .before .before .before .examine .ensures .sheet _ _ (c .m .given .1)
+    → let a = c .before .before .before .before .before .before .before .before .before .args in
+    OpenedStore (timedView clubs) timedNumbers (timedStoreOf (now (a .slots)) (now (a .counts)) (now (a .tallies)) (now (a .balance))) (c .m .given .0 .0)
+    (c .m .given .0 .1 .0) (c .before .before .before .examine .last .1 .1 .1 .1 .0)
+sheet c = opened-store (timedView clubs) timedNumbers _ (c .before .before .before .examine .ensures) _ _ (c .m .given .1)
 
 -- The key is not 0.
-some-key : (c : tie.Else1) → key (c .before .before .before .before .before .before .before .before .before .before .before .args .entry) ≢ 0
+some-key : (c : tie.Else1) → key (c .before .before .before .before .before .before .before .before .before .before .before .before .args .entry) ≢ 0
 some-key c z = c .if1 .left (c .before .key .ensures ∙ z)
 
 slice-aggregate-examine : tie.Need-slice-aggregate-examine
 slice-aggregate-examine c = search needs
 
 examine-requires : tie.Need-examine-requires
-examine-requires c κs = refl
+examine-requires c κs = search needs
 
 enum-known-m : tie.Need-enum-known-m
 enum-known-m c = search needs
@@ -65,7 +66,7 @@ returns-4 : tie.Need-returns-4
 unfolding lookedAt
 returns-4 c =
     let k = c .before in
-    store-refused _ _ _ (find _) refl [] (k .before .before .before .examine .ensures .found) (k .cause .given .1)
+    store-refused _ _ _ _ (find _) refl [] (k .before .before .before .examine .ensures .found) (k .cause .given .1)
 
 pub find-spec : {M : Type 1} → statement M
 find-spec =

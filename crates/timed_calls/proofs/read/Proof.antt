@@ -1,6 +1,5 @@
 -- `read` meets its contract.
-use mathlib.Core.Path.{refl}
-use Rattle.call_outcomes.specs.Plain.{readRanks}
+use Rattle.call_outcomes.specs.PlainCalls.{readRanks}
 use Rattle.timed_calls.specs.QuestionLaws.{readable, asked-outcome}
 use borrow.Author.Needs.{needs}
 use Rattle.timed_calls.proofs.read.Statement.{statement}
@@ -10,7 +9,7 @@ slice-aggregate-examine : tie.Need-slice-aggregate-examine
 slice-aggregate-examine c = search needs
 
 examine-requires : tie.Need-examine-requires
-examine-requires c κs = refl
+examine-requires c κs = search needs
 
 slice-aggregate-read : tie.Need-slice-aggregate-read
 slice-aggregate-read c = search needs
@@ -24,8 +23,7 @@ same-length c = search needs
 returns : tie.Need-returns
 returns c =
     let r = c .before .before in
-    let x = r .before .before .before .before in
-    asked-outcome (x .examine .ensures) (readRanks _ _ _) _ _ _ _ (r .read .ensures)
+    asked-outcome (r .before .before .before .before .examine .ensures) (readRanks _ _ _) _ _ _ _ (r .read .ensures)
 
 pub read-spec : {M : Type 1} → statement M
 read-spec =

@@ -4,8 +4,8 @@
 
 use reference::calls::{self, Answer};
 use reference::coins::{Source, Undecided};
-use reference::layout::{COUNTS, SLOTS};
-use reference::places::TIED;
+use reference::layout::{COUNTS, SLOTS, TALLIES};
+use reference::places::{RETIRED, TIED};
 use reference::random::SplitMix64;
 use reference::shares::Store;
 use reference::timed::{self, Balance, BALANCE};
@@ -102,7 +102,8 @@ pub fn lay_out(list: &[u64], m: usize, balance: impl FnMut(usize, usize, usize) 
     lay_out_in(Order::Tree, list, m, balance)
 }
 
-/// The same with the counts in this order.
+/// The same with the counts in this order. The tallies stand in tree order in both:
+/// there were none before it, and the conversions move counts alone.
 pub fn lay_out_in(
     order: Order,
     list: &[u64],
@@ -113,6 +114,11 @@ pub fn lay_out_in(
     store.counts[0] = m as u16;
     lay_out_range(&mut store, order, m, 1, 0, list, &mut balance);
     store
+}
+
+/// How many entries of a list do not bear bit 62 (02, F-11).
+pub fn scoring(list: &[u64]) -> u16 {
+    list.iter().filter(|&&entry| entry & RETIRED == 0).count() as u16
 }
 
 fn lay_out_range(
@@ -126,6 +132,7 @@ fn lay_out_range(
 ) {
     let n = list.len();
     store.counts[order.place(range, m)] = n as u16;
+    store.tallies[Order::Tree.place(range, m)] = scoring(list);
     if depth == height(m) {
         let slots = leaf_slots(m);
         assert!(n <= slots, "leaf {range} of M {m} holds {n}");
@@ -181,27 +188,92 @@ pub fn with_ties(list: &[u64], pattern: u64) -> Vec<u64> {
         .collect()
 }
 
+/// The list with these bits at each rank, two binary digits of `pattern` for a boat:
+/// the lower for bit 63, the upper for bit 62; and no other bits 63 and 62.
+pub fn with_bits(list: &[u64], pattern: u64) -> Vec<u64> {
+    let ranks = list.iter().enumerate();
+    ranks
+        .map(|(rank, &entry)| {
+            let digits = pattern >> (2 * rank);
+            entry & !TIED & !RETIRED | (digits & 1) << 63 | (digits >> 1 & 1) << 62
+        })
+        .collect()
+}
+
 /// Place, sum and group of a rank, pair by pair, as rule A7 has it: the points for
 /// the place for which boats have tied and for the places directly below are
-/// added together and divided equally. Two boats have tied where every boat
-/// behind the first of them, up to the other, tied with the boat before her. A
-/// boat has the place behind all boats before her that she has not tied with.
+/// added together and divided equally. Two scoring boats have tied where every
+/// boat behind the first of them, up to the other, bears bit 63, retired ones
+/// between them included (02, F-3, F-11). A boat has the place behind all scoring
+/// boats before her that she has not tied with; a retired boat has none.
 pub fn values_by_pairs(list: &[u64], rank: usize) -> [usize; 3] {
+    let scoring = |rank: usize| list[rank] & RETIRED == 0;
+    if !scoring(rank) {
+        return [0, 0, 1];
+    }
     let have_tied = |other: usize| {
         let (before, behind) = (rank.min(other), rank.max(other));
         !list[before + 1..=behind]
             .iter()
             .any(|&entry| entry < 1 << 63)
     };
-    let group: Vec<usize> = (0..list.len()).filter(|&other| have_tied(other)).collect();
-    let ahead = (0..rank).filter(|&other| !have_tied(other)).count();
-    let places = group.iter().map(|other| other + 1);
-    [ahead + 1, places.sum(), group.len()]
+    let boats: Vec<usize> = (0..list.len()).filter(|&other| scoring(other)).collect();
+    let group = boats.iter().filter(|&&other| have_tied(other));
+    let ahead = boats
+        .iter()
+        .filter(|&&other| other < rank && !have_tied(other));
+    let place_without_ties =
+        |other: &usize| 1 + boats.iter().filter(|&&boat| boat < *other).count();
+    [
+        1 + ahead.count(),
+        group.clone().map(place_without_ties).sum(),
+        group.count(),
+    ]
+}
+
+/// The same by the words of 02, F-11, one after the other.
+pub fn values_by_words(list: &[u64], rank: usize) -> [usize; 3] {
+    let retired = |boat: usize| list[boat] & RETIRED != 0;
+    let bears_63 = |boat: usize| list[boat] & TIED != 0;
+    // "A retired boat answers place 0, sum 0, group 1".
+    if retired(rank) {
+        return [0, 0, 1];
+    }
+    let scoring_before = |her: usize| (0..her).rev().find(|&boat| !retired(boat));
+    let scoring_behind = |her: usize| (her + 1..list.len()).find(|&boat| !retired(boat));
+    // "A scoring boat ties with the scoring boat before her exactly when she and
+    // every retired boat between them bear bit 63", "that bit on the first scoring
+    // boat has no effect."
+    let ties = |her: usize| match scoring_before(her) {
+        None => false,
+        Some(before) => bears_63(her) && (before + 1..her).all(bears_63),
+    };
+    // "a tied group is a longest run of scoring boats so tied".
+    let mut group = vec![rank];
+    while ties(group[0]) {
+        group.insert(0, scoring_before(group[0]).unwrap());
+    }
+    while let Some(behind) = scoring_behind(group[group.len() - 1]) {
+        if !ties(behind) {
+            break;
+        }
+        group.push(behind);
+    }
+    // "A group's place is one more than the scoring entries before its first boat".
+    let p = 1 + (0..group[0]).filter(|&boat| !retired(boat)).count();
+    // F-3: "the sum of places p to p + t − 1, for a group of t".
+    let t = group.len();
+    [p, (p..=p + t - 1).sum(), t]
 }
 
 /// Whether some list, size and balance entries lay out exactly this store.
-/// Only the entries in slot order, count 0 and the left halves come in question.
 pub fn is_laid_out(store: &Store) -> bool {
+    laid_out_again(store).map_or(false, |again| again == *store)
+}
+
+/// The store that the entries in slot order, count 0 and the left halves lay out:
+/// only these come in question for this store.
+pub fn laid_out_again(store: &Store) -> Option<Store> {
     let list: Vec<u64> = store.slots.iter().copied().filter(|&e| e != 0).collect();
     let (m, n) = (usize::from(store.counts[0]), list.len());
     let allowed = if n == 0 {
@@ -210,7 +282,7 @@ pub fn is_laid_out(store: &Store) -> bool {
         (n..2 * n).contains(&m)
     };
     if !allowed || n > 1024 {
-        return false;
+        return None;
     }
     let mut all_are_candidates = true;
     let laid_out = lay_out(&list, m, |range, n, c| {
@@ -219,7 +291,7 @@ pub fn is_laid_out(store: &Store) -> bool {
         all_are_candidates &= chosen < c;
         chosen.min(c - 1)
     });
-    all_are_candidates && laid_out == *store
+    all_are_candidates.then_some(laid_out)
 }
 
 /// An entry with a name of its own.
@@ -407,6 +479,8 @@ impl Model {
 
     fn write(&self, store: &mut Store, order: Order, range: usize, depth: usize, list: &[Named]) {
         store.counts[order.place(range, self.m)] = list.len() as u16;
+        let entries: Vec<u64> = list.iter().map(|named| named.entry).collect();
+        store.tallies[Order::Tree.place(range, self.m)] = scoring(&entries);
         if depth == height(self.m) {
             let slots = leaf_slots(self.m);
             let start = (range - (1 << depth)) * slots;
@@ -459,25 +533,32 @@ pub fn sheet_of(n: usize, random: &mut SplitMix64) -> Store {
 }
 
 pub fn insert(store: &mut Store, rank: usize, entry: u64, tape: &[u32]) -> Answer {
-    calls::insert(
-        &mut store.slots[..],
-        &mut store.counts[..],
-        rank,
-        entry,
-        tape,
-    )
+    let (slots, counts) = (&mut store.slots[..], &mut store.counts[..]);
+    calls::insert(slots, counts, &mut store.tallies[..], rank, entry, tape)
 }
 
 pub fn delete(store: &mut Store, rank: usize, tape: &[u32]) -> Answer {
-    calls::delete(&mut store.slots[..], &mut store.counts[..], rank, tape)
+    let (slots, counts) = (&mut store.slots[..], &mut store.counts[..]);
+    calls::delete(slots, counts, &mut store.tallies[..], rank, tape)
+}
+
+pub fn read(store: &Store, first: usize, last: usize, output: &mut [u64]) -> Answer {
+    let (slots, counts) = (&store.slots[..], &store.counts[..]);
+    calls::read(slots, counts, &store.tallies[..], first, last, output)
 }
 
 pub fn check(store: &Store) -> Answer {
-    calls::check(&store.slots[..], &store.counts[..])
+    calls::check(&store.slots[..], &store.counts[..], &store.tallies[..])
 }
 
 pub fn place_of(store: &Store, rank: usize) -> Answer {
-    calls::place(&store.slots[..], &store.counts[..], rank)
+    let (slots, counts) = (&store.slots[..], &store.counts[..]);
+    calls::place(slots, counts, &store.tallies[..], rank)
+}
+
+pub fn clear(store: &mut Store) -> Answer {
+    let (slots, counts) = (&mut store.slots[..], &mut store.counts[..]);
+    calls::clear(slots, counts, &mut store.tallies[..])
 }
 
 pub fn m(store: &Store) -> usize {
@@ -498,7 +579,7 @@ pub fn list(store: &Store) -> Vec<u64> {
     let n = n(store);
     let mut list = vec![0; n];
     if n > 0 {
-        let answer = calls::read(&store.slots[..], &store.counts[..], 0, n - 1, &mut list);
+        let answer = read(store, 0, n - 1, &mut list);
         assert_eq!(answer, Answer::Read { entries: n });
     }
     list
@@ -507,35 +588,48 @@ pub fn list(store: &Store) -> Vec<u64> {
 pub fn timed_insert(store: &mut TimedStore, entry: u64, tape: &[u32]) -> Answer {
     let TimedStore { plain, balance } = store;
     let (slots, counts) = (&mut plain.slots[..], &mut plain.counts[..]);
-    timed::insert(slots, counts, &mut balance[..], entry, tape)
+    let (tallies, balance) = (&mut plain.tallies[..], &mut balance[..]);
+    timed::insert(slots, counts, tallies, balance, entry, tape)
 }
 
 pub fn timed_delete(store: &mut TimedStore, rank: usize, tape: &[u32]) -> Answer {
     let TimedStore { plain, balance } = store;
     let (slots, counts) = (&mut plain.slots[..], &mut plain.counts[..]);
-    timed::delete(slots, counts, &mut balance[..], rank, tape)
+    let (tallies, balance) = (&mut plain.tallies[..], &mut balance[..]);
+    timed::delete(slots, counts, tallies, balance, rank, tape)
 }
 
 pub fn timed_find(store: &TimedStore, entry: u64) -> Answer {
-    let TimedStore { plain, balance } = store;
-    timed::find(&plain.slots[..], &plain.counts[..], &balance[..], entry)
+    let (slots, counts, tallies, balance) = timed_slices(store);
+    timed::find(slots, counts, tallies, balance, entry)
+}
+
+pub fn timed_read(store: &TimedStore, first: usize, last: usize, output: &mut [u64]) -> Answer {
+    let (slots, counts, tallies, balance) = timed_slices(store);
+    timed::read(slots, counts, tallies, balance, first, last, output)
 }
 
 pub fn timed_place(store: &TimedStore, rank: usize) -> Answer {
-    let TimedStore { plain, balance } = store;
-    timed::place(&plain.slots[..], &plain.counts[..], &balance[..], rank)
+    let (slots, counts, tallies, balance) = timed_slices(store);
+    timed::place(slots, counts, tallies, balance, rank)
 }
 
 pub fn timed_check(store: &TimedStore) -> Answer {
+    let (slots, counts, tallies, balance) = timed_slices(store);
+    timed::check(slots, counts, tallies, balance)
+}
+
+fn timed_slices(store: &TimedStore) -> (&[u64], &[u16], &[u16], &[u64]) {
     let TimedStore { plain, balance } = store;
-    timed::check(&plain.slots[..], &plain.counts[..], &balance[..])
+    let (slots, counts) = (&plain.slots[..], &plain.counts[..]);
+    (slots, counts, &plain.tallies[..], &balance[..])
 }
 
 /// Slices of any lengths, for calls that must refuse them.
-pub fn slices(slots: usize, counts: usize) -> (Vec<u64>, Vec<u16>) {
-    (vec![0; slots], vec![0; counts])
+pub fn slices(slots: usize, counts: usize, tallies: usize) -> (Vec<u64>, Vec<u16>, Vec<u16>) {
+    (vec![0; slots], vec![0; counts], vec![0; tallies])
 }
 
-pub fn full_lengths() -> (Vec<u64>, Vec<u16>) {
-    slices(SLOTS, COUNTS)
+pub fn full_lengths() -> (Vec<u64>, Vec<u16>, Vec<u16>) {
+    slices(SLOTS, COUNTS, TALLIES)
 }

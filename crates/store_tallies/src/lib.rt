@@ -1,0 +1,84 @@
+// The tallies of a sheet: for each range the number of its scoring entries.
+ghost use mathlib.Core.Path.{_≡_};
+ghost use Prim.Native.Nat.{ℕ, _+_, _*_, _^_, _≤_, _<_};
+ghost use lib.ListN.{length};
+ghost use Rattle.tree_sizes.specs.Sizes as sizes;
+ghost use Rattle.tree_sizes.specs.Sizes.{height};
+ghost use Rattle.store_tallies.specs.TalliesIn.{tallyAt, TalliesBut, TalliesIn};
+ghost use Rattle.store_tallies.specs.Updating.{Filled, halvesSum};
+ghost use Rattle.store_tallies.specs.Path.{pathTally};
+use store_scoring::tally_of;
+use tree_sizes::Size;
+use tree_sizes::power;
+
+// Counts the scoring entries of the leaves with the range numbers from `first` up to, not including, `end`.
+fn count_leaves(size: Size, slots: &[u64], first: usize, end: usize, tallies: &mut [u32])
+    requires most { ⌜ size .m < 2 ^ 30 ⌝ }
+    requires slots { ⌜ sizes.slots (size .m) ≤ length (now slots) ⌝ }
+    requires room { ⌜ 2 * 2 ^ height (size .m) ≤ length (now tallies) ⌝ }
+    requires leaves { ⌜ (2 ^ height (size .m) ≤ first) × (first ≤ end) × (end ≤ 2 * 2 ^ height (size .m)) ⌝ }
+    ensures { λ _. ⌜ Filled (tallyAt (size .m) (now (slots .entry)) 0) first end (now (tallies .entry)) (now (tallies .exit)) ⌝ }
+{
+    let s = size.leaf_slots();
+    let leaves = power(size.height());
+    let mut k = first;
+    while k < end {
+        tallies[k] = tally_of(slots, s * (k - leaves), s) as u32;
+        k += 1;
+    }
+}
+
+// Writes at each range number from `first` up to, not including, `end` the sum over the halves.
+fn add_halves(tallies: &mut [u32], first: usize, end: usize)
+    requires order { ⌜ first ≤ end ⌝ }
+    requires room { ⌜ 2 * end ≤ length (now tallies) ⌝ }
+    requires small { ⌜ ((k : ℕ) → first ≤ k → k < end → halvesSum (now tallies) k < 2 ^ 32) ⌝ }
+    ensures { λ _. ⌜ Filled (halvesSum (now (tallies .entry))) first end (now (tallies .entry)) (now (tallies .exit)) ⌝ }
+{
+    let mut k = first;
+    while k < end {
+        tallies[k] = tallies[2 * k] + tallies[2 * k + 1];
+        k += 1;
+    }
+}
+
+// Brings the tallies up to date where they may be wrong: at the ranges that have one of the leaves with the range numbers from `first` to
+// `last`. The leaves are counted, and then, row by row, the ranges above them get the sums over their halves.
+pub fn update_tallies(size: Size, slots: &[u64], first: usize, last: usize, tallies: &mut [u32])
+    requires most { ⌜ size .m < 2 ^ 30 ⌝ }
+    requires slots { ⌜ sizes.slots (size .m) ≤ length (now slots) ⌝ }
+    requires room { ⌜ 2 * 2 ^ height (size .m) ≤ length (now tallies) ⌝ }
+    requires leaves { ⌜ (2 ^ height (size .m) ≤ first) × (first ≤ last) × (last < 2 * 2 ^ height (size .m)) ⌝ }
+    requires others { ⌜ TalliesBut (size .m) (now slots) first (last + 1) (now tallies) ⌝ }
+    ensures { λ _. ⌜ TalliesIn (size .m) (now (slots .entry)) (now (tallies .exit)) ⌝ }
+{
+    count_leaves(size, slots, first, last + 1, tallies);
+    let mut from = first;
+    let mut to = last;
+    while 1 < from {
+        from = from / 2;
+        to = to / 2;
+        add_halves(tallies, from, to + 1);
+    }
+}
+
+// The number of scoring entries before the leaf with this range number: on the way down to it, the tallies of the left halves of which the
+// right half is taken.
+pub fn tally_before(size: Size, tallies: &[u32], leaf: usize) -> usize
+    requires most { ⌜ size .m < 2 ^ 32 ⌝ }
+    requires room { ⌜ 2 * 2 ^ height (size .m) ≤ length (now tallies) ⌝ }
+    ensures { λ r. ⌜ r ≡ pathTally (now (tallies .entry)) leaf (height (size .m)) 1 ⌝ }
+{
+    let mut levels = size.height();
+    let mut k: usize = 1;
+    let mut sum: usize = 0;
+    while 0 < levels {
+        levels -= 1;
+        k = 2 * k;
+        if (k + 1) * power(levels) <= leaf {
+            sum += tallies[k] as usize;
+            k += 1;
+        }
+    }
+    sum
+}

@@ -1,0 +1,2 @@
+-- Tallies that are the counts.
+pub mod CopyLaws

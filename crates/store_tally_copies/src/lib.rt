@@ -1,0 +1,55 @@
+// Slices of tallies compared, and the tallies of a sheet without retired boats: its counts, with 0 at number 0.
+ghost use mathlib.Core.Path.{_≡_};
+ghost use mathlib.Core.List.{_∷_};
+ghost use Prim.Native.Nat.{_<_};
+ghost use lib.ListN.{length, drop};
+ghost use Rattle.base.specs.Lists.{equalLists};
+
+// The numbers of both slices from `from` on are the same. The differences are joined bit by bit and compared with 0 once, since in a sheet
+// all have to be looked at.
+fn same_from(a: &[u16], b: &[u16], from: usize) -> bool
+    requires { ⌜ length (now a) ≡ length (now b) ⌝ }
+    ensures { λ r. ⌜ r ≡ equalLists (drop from (now (a .entry))) (drop from (now (b .entry))) ⌝ }
+{
+    let mut joined: u16 = 0;
+    let mut k = from;
+    while k < a.len() {
+        joined = joined | (a[k] ^ b[k]);
+        k += 1;
+    }
+    joined == 0
+}
+
+// The two slices hold the same numbers.
+pub fn same_numbers(a: &[u16], b: &[u16]) -> bool
+    requires { ⌜ length (now a) ≡ length (now b) ⌝ }
+    ensures { λ r. ⌜ r ≡ equalLists (now (a .entry)) (now (b .entry)) ⌝ }
+{
+    same_from(a, b, 0)
+}
+
+// The tallies are the counts, but 0 at number 0.
+pub fn are_counts(tallies: &[u16], counts: &[u16]) -> bool
+    requires lengths { ⌜ length (now tallies) ≡ length (now counts) ⌝ }
+    requires some { ⌜ 0 < length (now tallies) ⌝ }
+    ensures { λ r. ⌜ r ≡ equalLists (now (tallies .entry)) (0 ∷ drop 1 (now (counts .entry))) ⌝ }
+{
+    if tallies[0] != 0 {
+        return false;
+    }
+    same_from(tallies, counts, 1)
+}
+
+// Makes the tallies the counts, but 0 at number 0.
+pub fn copy_counts(tallies: &mut [u16], counts: &[u16])
+    requires lengths { ⌜ length (now tallies) ≡ length (now counts) ⌝ }
+    requires some { ⌜ 0 < length (now tallies) ⌝ }
+    ensures { λ _. ⌜ now (tallies .exit) ≡ 0 ∷ drop 1 (now (counts .entry)) ⌝ }
+{
+    tallies[0] = 0;
+    let mut k: usize = 1;
+    while k < counts.len() {
+        tallies[k] = counts[k];
+        k += 1;
+    }
+}
