@@ -28,8 +28,8 @@ use Rattle.tree_walk.specs.Updated.{UpdatedAs}
 use Rattle.tree_update.specs.Update.{UpdateReady}
 use Rattle.store_layout.specs.declared.Capacity.{Capacity}
 use Rattle.store_layout.specs.Layout.{Store, laySlots, layCounts, layOut}
-use Rattle.store_order.specs.CountOrder.{countOrder}
-use Rattle.store_order.specs.CountOrderLaws.{countOrder-size}
+use Rattle.store_order.specs.CountOrder.{countOrder, numberOrder}
+use Rattle.store_order.specs.CountOrderLaws.{countOrder-size, number-count}
 use Rattle.store_layout.specs.Sheet.{IsContents}
 use Rattle.store_layout.specs.Decode.{Contents, numbered}
 use Rattle.store_layout.specs.Room.{CapacityReady}
@@ -260,16 +260,9 @@ module _ {cap : Capacity} (ready : CapacityReady cap) {change : Change} {e n m :
         room = rw (new-size, work′-length) new-fit;
       }
 
-      -- what is known of the part, and of the counts after the change
+      -- what is known of the part
       pub part-inside : PartIn m′ part
       part-inside = rw (← drawn .size-is) (planned .new-part)
-
-      pub counts-unused : (k : ℕ) → 2 * 2 ^ height m′ ≤ k → getD work′ k 0 ≡ 0
-      counts-unused k behind =
-          ap (λ (xs : List ℕ). getD xs k 0) (drawn .counts-are)
-          ∙ shapeCounts-unused (height (drawn .shape .size)) (cap .counts) (countAfter change n) (drawn .shape)
-          (balanced-perfect (drawn .shape .size) (height (drawn .shape .size)) 0 (countAfter change n) (drawn .shape .tree) (new-shape .balanced)) new-fit k
-          (rw (drawn .size-is) behind)
 
       pub size-kept : part .range ≢ 1 → m′ ≡ m
       unfolding Confined
@@ -292,6 +285,15 @@ module _ {cap : Capacity} (ready : CapacityReady cap) {change : Change} {e n m :
       unfolding written
       size-written store-is =
           ap (λ (t : Store). getD (t .counts) 0 0) store-is ∙ countOrder-size (height (getD work′ 0 0)) work′ ∙ new-size ∙ drawn .size-is
+
+      -- the work array has the new counts by range number
+      pub work-numbered : {slots′ counts′ : List ℕ} → storeOf slots′ counts′ ≡ written d work′ (storeOf slots counts) → work′ ≡ numbered (storeOf slots′ counts′)
+      unfolding written numbered
+      work-numbered store-is =
+          let h = height (getD work′ 0 0) in
+          sym (ap numbered store-is
+          ∙ ap (λ (k : ℕ). numberOrder (height k) (countOrder h work′)) (countOrder-size h work′)
+          ∙ number-count h work′ (rw (new-size, work′-length) new-fit))
 
       -- where it is a part of the sheet, the slots before it and behind it stay
       module _ (wide : 2 * cap .entries < 2 ^ 16) (other : part .range ≢ 1) {slots′ counts′ : List ℕ}

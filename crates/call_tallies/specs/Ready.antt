@@ -3,11 +3,11 @@ use mathlib.Core.Path.{_≡_}
 use mathlib.Core.Logic.{_≢_}
 use mathlib.Core.List.{List}
 use Prim.Native.Nat.{ℕ, _+_, _*_, _^_, _≤_, _<_}
-use lib.ListN.{length, set}
+use lib.ListN.{length}
 use Rattle.tree_sizes.specs.Sizes.{height, slots}
 use Rattle.tree_counts.specs.declared.Part.{Part}
 use Rattle.store_order.specs.CountOrder.{numberOrder}
-use Rattle.store_tallies.specs.TalliesIn.{TalliesBut}
+use Rattle.store_tallies.specs.TalliesIn.{LeavesCounted, TalliesBut}
 use Rattle.store_part.specs.Region.{leavesOf}
 use Rattle.store_part.specs.Plan.{PartIn}
 
@@ -18,6 +18,11 @@ pub record TalliesReady (M : ℕ) (sl : List ℕ) (room : ℕ) : Type 0 where
   pub few : length sl < 2 ^ 16
   pub ranges-room : 2 * 2 ^ height M ≤ room
 
+-- The counts, by range number, have room for its ranges, and those of the leaves are the numbers of entries in their slots.
+pub record CountsReady (M : ℕ) (sl counts : List ℕ) : Type 0 where
+  pub room : 2 * 2 ^ height M ≤ length counts
+  pub counted : LeavesCounted M sl (2 ^ height M) (2 * 2 ^ height M) counts
+
 -- The part is one of the sheet; and where it is not the whole sheet, the tallies, in the order of the counts, are those that the slots give, but
 -- perhaps at the ranges that have a leaf of it.
 pub record PartReady (M : ℕ) (part : Part) (sl tallies : List ℕ) : Type 0 where
@@ -25,8 +30,8 @@ pub record PartReady (M : ℕ) (part : Part) (sl tallies : List ℕ) : Type 0 wh
   pub kept : part .range ≢ 1 → let leaves = leavesOf M (part .depth) in
       TalliesBut M sl (part .range * leaves) (part .range * leaves + leaves) (numberOrder (height M) tallies)
 
--- The numbers from which the tallies are brought up to date: number 0 alone is made 0 where the range is the whole sheet, and otherwise they are
--- the tallies by range number.
+-- The numbers from which the tallies are brought up to date: those before where the range is the whole sheet, and otherwise the tallies by range
+-- number.
 pub record StartsFrom (M range : ℕ) (tallies old new : List ℕ) : Type 0 where
-  pub whole : range ≡ 1 → new ≡ set old 0 0
+  pub whole : range ≡ 1 → new ≡ old
   pub other : range ≢ 1 → new ≡ numberOrder (height M) tallies

@@ -7,8 +7,8 @@ use Prim.Native.Nat.{ℕ, zero, suc, _+_, _-_, _*_, _^_, _≤_, _<_}
 use native.Mathlib.Omega.{arith}
 use native.Mathlib.Nat.{mul-le-mul-right, pow-succ'}
 use lib.Pow.{pow-add, pow-pos}
-use lib.Seq.{getD-set-same, getD-set-other}
-use lib.ListN.{length, getD, set, take, drop}
+use lib.ListN.{length, getD, take, drop, replicate}
+use Rattle.base.specs.ListLaws.{replicate-at}
 use Rattle.base.specs.CaseLaws.{eq-or-ne}
 use Rattle.tree_sizes.specs.Sizes.{height, leafSlots}
 use Rattle.tree_rules.specs.declared.Change.{Change}
@@ -16,7 +16,9 @@ use Rattle.tree_rules.specs.declared.Change.the-variants.{Insert, Delete}
 use Rattle.tree_rules.specs.Tree.{Shape}
 use Rattle.tree_rules.specs.ChangeList.{changeList}
 use Rattle.tree_counts.specs.declared.Part.{Part}
+use Rattle.tree_counts.specs.Counts.{shapeCounts}
 use Rattle.tree_counts.specs.CountLaws.{holds-count}
+use Rattle.tree_counts.specs.ShapeCountLaws.{length-shapeCounts}
 use Rattle.store_order.specs.CountOrder.{countOrder}
 use Rattle.store_order.specs.CountOrderLaws.{numberOrder-root}
 use Rattle.store_layout.specs.declared.Capacity.{Capacity}
@@ -28,12 +30,12 @@ use Rattle.store_scoring.specs.ScoringLaws.{none-append, none-parts, tally-none
 use Rattle.store_tallies.specs.Tallies.{rangeTallies, layTallies}
 use Rattle.store_tallies.specs.TalliesIn.{TalliesBut, TalliesIn}
 use Rattle.store_tallies.specs.LayLaws.{length-rangeTallies, numbered-tallies, rangeTallies-holds}
-use Rattle.store_tallies.specs.LaidLaws.{tallies-laid}
+use Rattle.store_tallies.specs.LaidLaws.{tallies-laid, leaves-counted}
 use Rattle.store_tallies.specs.KeptLaws.{tallies-kept, tallies-none}
 use Rattle.store_tallies.specs.NoneLaws.{none-tallies}
 use Rattle.store_part.specs.Region.{leavesOf, leavesBefore}
 use Rattle.store_part.specs.Plan.{partFrom, partLength, PartIn}
-use Rattle.call_tallies.specs.Ready.{PartReady, StartsFrom}
+use Rattle.call_tallies.specs.Ready.{CountsReady, PartReady, StartsFrom}
 
 -- ---- no boat is retired
 
@@ -58,6 +60,14 @@ module _ (cap : Capacity) (roomy : Roomy cap) (list : List ℕ) (s : Shape) (w :
 
   pub none-known : getD tallies 1 0 ≡ length list → noneRetired list ≡ true
   none-known all = tally-none list (sym root-tally ∙ all)
+
+  -- The counts by range number tell the numbers of entries of the leaves.
+  pub counts-ready : {m : ℕ} {slots counts : List ℕ} → s .size ≡ m → slots ≡ laySlots (cap .slots) list s → counts ≡ shapeCounts (cap .counts) (length list) s
+      → CountsReady m slots counts
+  counts-ready size laid are = record {
+    room = rw (are, length-shapeCounts (cap .counts) (length list) s, ← size) (roomy .counts-fit (length list) (s .size) (w .room) (w .shape .allowed));
+    counted = rw (← size, laid, are) (leaves-counted cap roomy list s w);
+  }
 
   -- The tallies that are written.
   pub none-written : noneRetired list ≡ true → {tallies′ counts : List ℕ} → counts ≡ layCounts (cap .counts) (length list) s → tallies′ ≡ 0 ∷ drop 1 counts
@@ -128,8 +138,8 @@ depth-zero zero h = refl
 depth-zero (suc d) h = absurd (omega (arith, pow-pos d, rw (pow-succ' 2 d) at h))
 
 -- The numbers from which the tallies are brought up to date are theirs but for the ranges that have a leaf of the part.
-module _ {M : ℕ} {part : Part} {sl tallies : List ℕ} (w : PartReady M part sl tallies) {old new : List ℕ} (some : 0 < length old)
-    (unused : (k : ℕ) → 2 * 2 ^ height M ≤ k → getD old k 0 ≡ 0) (s : StartsFrom M (part .range) tallies old new) where
+module _ {M : ℕ} {part : Part} {sl tallies : List ℕ} (w : PartReady M part sl tallies) (room : ℕ) {new : List ℕ}
+    (s : StartsFrom M (part .range) tallies (replicate room 0) new) where
   whole-leaves : part .range ≡ 1 → leavesOf M (part .depth) ≡ 2 ^ height M
   unfolding leavesOf
   whole-leaves one =
@@ -144,7 +154,6 @@ module _ {M : ℕ} {part : Part} {sl tallies : List ℕ} (w : PartReady M part s
       let first : 1 * 2 ^ height M ≡ 2 ^ height M = omega arith in
       let end : 2 ^ height M + 2 ^ height M ≡ 2 * 2 ^ height M = omega arith in
       rw (s .whole one, leaves, one, first, end)
-      (tallies-none M sl (set old 0 0) (getD-set-same old 0 0 0 some)
-      (λ k h. getD-set-other old 0 k 0 0 (λ z. omega (arith, z, h, pow-pos (height M))) ∙ unused k h)))
+      (tallies-none M sl (replicate room 0) (replicate-at 0 room 0) (λ k h. replicate-at 0 room k)))
       (λ (other : part .range ≢ 1). rw (s .other other) (w .kept other))
       (eq-or-ne (part .range) 1)

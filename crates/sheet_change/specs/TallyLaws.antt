@@ -22,9 +22,9 @@ use Rattle.tree_walk.specs.declared.Updated.the-variants as updated
 use Rattle.tree_walk.specs.Updated.{UpdatedAs}
 use Rattle.store_order.specs.CountOrder.{countOrder, numberOrder}
 use Rattle.store_layout.specs.Layout.{Store, laySlots, layCounts, layOut}
-use Rattle.store_layout.specs.Decode.{Contents}
+use Rattle.store_layout.specs.Decode.{Contents, numbered}
 use Rattle.store_layout.specs.Sheet.{IsContents}
-use Rattle.store_layout.specs.SheetLaws.{size-layOut, length-slots, length-counts}
+use Rattle.store_layout.specs.SheetLaws.{size-layOut, length-slots, length-counts, numbered-layOut}
 use Rattle.store_scoring.specs.Scoring.{retiredBit, noneRetired}
 use Rattle.store_tallies.specs.Tallies.{rangeTallies, layTallies}
 use Rattle.store_tallies.specs.TalliesIn.{TalliesIn}
@@ -46,8 +46,8 @@ use Rattle.call_outcomes.specs.Clubs.{clubs}
 use Rattle.call_outcomes.specs.ClubsLaws.{clubs-roomy, clubs-ready, clubs-width}
 use Rattle.call_change.specs.SheetChange.{ChangeReady, written}
 use Rattle.call_change.specs.SheetChangeLaws as changed
-use Rattle.call_tallies.specs.Ready.{TalliesReady, PartReady}
-use Rattle.call_tallies.specs.WriteLaws.{none-changed, none-known, none-written, slots-written, kept-tallies}
+use Rattle.call_tallies.specs.Ready.{TalliesReady, CountsReady, PartReady}
+use Rattle.call_tallies.specs.WriteLaws.{none-changed, none-known, counts-ready, none-written, slots-written, kept-tallies}
 use Rattle.sheet_change.specs.PlainReady.{PlainReady}
 
 module _ {change : Change} {e n m : ℕ} {slots counts tallies work : List ℕ} (p : PlainReady change e n m (plainStoreOf slots counts tallies) work) where
@@ -168,8 +168,12 @@ module _ {change : Change} {e n m : ℕ} {slots counts tallies work : List ℕ} 
                 (changed.kept-behind clubs-ready sheet-ready tape answer work′ w m′ part next done clubs-width other store-is) (before-in other);
           }
 
-      pub numbers-unused : (k : ℕ) → 2 * 2 ^ height m′ ≤ k → getD work′ k 0 ≡ 0
-      numbers-unused = changed.counts-unused clubs-ready sheet-ready tape answer work′ w m′ part next done
+      pub counts-counted : CountsReady m′ slots′ work′
+      counts-counted =
+          counts-ready clubs clubs-roomy list′ shape′ contents′ size′ slots-are′
+          (changed.work-numbered clubs-ready sheet-ready tape answer work′ w m′ part next done store-is
+          ∙ ap numbered (left .made .laid)
+          ∙ numbered-layOut clubs list′ shape′ contents′ clubs-roomy)
 
       -- ---- with these tallies the change is that of the plain sheet
 

@@ -65,12 +65,12 @@ fn write_drawn(slots: &mut [u64], counts: &mut [u16], work: &[u32], drawn: Drawn
     }
 }
 
-// No boat on the sheet of n entries with these tallies is retired, and none comes in: number 1 is the tally of the whole sheet.
+// No boat on the sheet of n entries with these tallies is retired, and none comes in.
 fn all_score(tallies: &[u16], n: usize, entry: u64) -> bool
     requires { ⌜ 1 < length (now tallies) ⌝ }
     ensures { λ r. ⌜ r ≡ (eqb (getD (now (tallies .entry)) 1 0) n && not (retiredBit entry)) ⌝ }
 {
-    if tallies[1] as usize != n {
+    if store_tally_copies::root_tally(tallies) != n {
         return false;
     }
     !store_scoring::is_retired(entry)
@@ -112,7 +112,15 @@ pub fn make(
             if scoring {
                 store_tally_copies::copy_counts(tallies, counts);
             } else {
-                call_tallies::write_tallies(Size { m: size }, part, slots, tallies, work);
+                let mut numbers = [0u32; 256];
+                call_tallies::write_tallies(
+                    Size { m: size },
+                    part,
+                    slots,
+                    work,
+                    tallies,
+                    &mut numbers,
+                );
             }
             Made::Done {
                 n: after,

@@ -1,3 +1,2 @@
--- The look at a plain store of the clubs: what its test of the tallies is given, then the laws.
-pub mod Tested
+-- The look at a plain store of the clubs: laws of its test of the tallies.
 pub mod TestedLaws

@@ -7,8 +7,7 @@ ghost use Rattle.call_outcomes.specs.Untallied.{storeOf};
 ghost use Rattle.call_outcomes.specs.Slice.{sliceTest};
 ghost use Rattle.call_outcomes.specs.Plain.{tallySlice, plainView, plainStoreOf};
 ghost use Rattle.call_outcomes.specs.Clubs.{clubs};
-ghost use Rattle.call_open.specs.Opening.{Opening, plainNumbers};
-ghost use Rattle.sheet_open.specs.Tested.{HoldsSheet};
+ghost use Rattle.call_open.specs.Opening.{Opening, OpenedSheet, plainNumbers};
 use call_open::Opened;
 use call_outcomes::Cause;
 use store_layout::Capacity;
@@ -25,19 +24,30 @@ fn capacity() -> Capacity
     }
 }
 
-// The tallies are those of the sheet in slots and counts. Where no boat is retired these are the counts, and nothing is counted.
-fn is_tallied(size: Size, slots: &[u64], counts: &[u16], tallies: &[u16]) -> bool
-    requires sheet { ⌜ HoldsSheet (size .m) (storeOf (now slots) (now counts)) ⌝ }
+// The tallies are those of the sheet of n entries in slots and counts, whose counts the work array has by range number. Where the tally of the
+// whole sheet is n no boat may be retired, and the tallies are the counts.
+fn is_tallied(
+    n: usize,
+    size: Size,
+    slots: &[u64],
+    counts: &[u16],
+    work: &[u32],
+    tallies: &[u16],
+) -> bool
+    requires sheet { ⌜ OpenedSheet clubs (storeOf (now slots) (now counts)) n (size .m) (now work) ⌝ }
     requires lengths { ⌜ length (now tallies) ≡ 256 ⌝ }
     ensures { λ r. ⌜ ((c : Contents) → decode clubs (storeOf (now (slots .entry)) (now (counts .entry))) ≡ some c
         → r ≡ sliceTest (tallySlice clubs) (now (tallies .entry)) c) ⌝ }
 {
-    if store_scoring::none_retired(slots, size.slots()) {
+    if store_tally_copies::root_tally(tallies) == n {
+        if !store_scoring::none_retired(slots, size.slots()) {
+            return false;
+        }
         return store_tally_copies::are_counts(tallies, counts);
     }
     let mut numbers = [0u32; 256];
     let mut right = [0u16; 256];
-    call_tallies::are_tallies(size, slots, tallies, &mut numbers, &mut right)
+    call_tallies::are_tallies(size, slots, work, tallies, &mut numbers, &mut right)
 }
 
 // Looks at slots, counts and tallies: the lengths are right and they are a plain sheet, whose counts are copied to the work array by range
@@ -51,7 +61,7 @@ pub fn examine(slots: &[u64], counts: &[u16], tallies: &[u16], work: &mut [u32])
     }
     match call_open::examine(capacity(), slots, counts, work) {
         Opened::Sheet { n, m } => {
-            if !is_tallied(Size { m: m }, slots, counts, tallies) {
+            if !is_tallied(n, Size { m: m }, slots, counts, work, tallies) {
                 return Opened::Refused(Cause::NotASheet);
             }
             Opened::Sheet { n: n, m: m }

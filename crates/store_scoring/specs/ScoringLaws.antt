@@ -3,14 +3,14 @@ use mathlib.Core.Path.{_≡_, refl, sym, ap, _∙_}
 use mathlib.Core.Bool.{Bool, true, false, _&&_, _||_, not}
 use mathlib.Core.List.{List, [], _∷_, _++_}
 use mathlib.Core.Logic.{⊎-elim, _≢_}
-use Prim.Native.Nat.{ℕ, suc, _+_, _%_, _^_, _≤_, _<_}
+use Prim.Native.Nat.{ℕ, suc, _+_, _-_, _/_, _%_, _^_, _≤_, _<_}
 use native.Mathlib.Numerals.{add-one}
 use native.Mathlib.Omega.{arith}
 use borrow.Author.Tests.{le-leb, lt-leb, not-true}
 use lib.Bits.{bitOr, or-add-and, and-le-l, and-le-r, or-lt, or-mod}
 use lib.Dec.{leb}
-use lib.ListN.{length, getD, take, drop, length-take, take-append-drop}
-use lib.Seq.{take-suc}
+use lib.ListN.{length, getD, take, drop, length-append, length-take, take-append-drop}
+use lib.Seq.{take-suc, take-add}
 use Rattle.base.specs.BoolLaws.{and-assoc, and-both, and-true, true-or-false}
 use Rattle.base.specs.CaseLaws.{eq-or-ne, le-or-gt}
 use Rattle.store_layout.specs.Leaf.{nonzero}
@@ -126,6 +126,19 @@ module _ (x : ℕ) where
   unfolding tally nonzero
   tally-in p h = rw (nonzero-entry x [] (omega arith)) (tally-scoring x [] h)
 
+  -- Bit 62 is the number of retired boats in it.
+  pub retired-slot : x / 2 ^ 62 % 2 + tally (nonzero (x ∷ [])) ≡ length (nonzero (x ∷ []))
+  unfolding nonzero tally retiredBit
+  retired-slot =
+      ⊎-elim (λ (z : x ≡ 0). rw (nonzero-zero x [] z, z))
+      (λ (p : x ≢ 0).
+      rw (nonzero-entry x [] (omega arith))
+      (⊎-elim
+      (λ (h : 2 ^ 62 ≤ x % 2 ^ 63). rw (tally-retired x [] (le-leb (2 ^ 62) (x % 2 ^ 63) h)) (omega arith))
+      (λ (h : x % 2 ^ 63 < 2 ^ 62). rw (tally-scoring x [] (lt-leb (2 ^ 62) (x % 2 ^ 63) h)) (omega arith))
+      (le-or-gt (2 ^ 62) (x % 2 ^ 63))))
+      (eq-or-ne x 0)
+
   pub none-slot : noneRetired (nonzero (x ∷ [])) ≡ not (retiredBit x)
   unfolding noneRetired nonzero
   none-slot =
@@ -141,6 +154,9 @@ module _ (slots : List ℕ) (i : ℕ) (inside : i < length slots) where
   -- The entries of the slots before the one behind i.
   pub entries-next : nonzero (take (i + 1) slots) ≡ nonzero (take i slots) ++ nonzero (getD slots i 0 ∷ [])
   entries-next = rw (add-one i, take-suc slots i 0 inside) (nonzero-append (take i slots) (getD slots i 0 ∷ []))
+
+  pub number-next : length (nonzero (take (i + 1) slots)) ≡ length (nonzero (take i slots)) + length (nonzero (getD slots i 0 ∷ []))
+  number-next = rw entries-next (length-append (nonzero (take i slots)) (nonzero (getD slots i 0 ∷ [])))
 
   pub tally-next : tally (nonzero (take (i + 1) slots)) ≡ tally (nonzero (take i slots)) + tally (nonzero (getD slots i 0 ∷ []))
   tally-next = rw (add-one i, take-suc slots i 0 inside) (slots-append (take i slots) (getD slots i 0 ∷ []))
@@ -170,3 +186,16 @@ pub tally-among : (entries : List ℕ) (seen x : ℕ) → seen < length entries 
 unfolding nonzero
 tally-among entries seen x more is full =
     rw (add-one seen, take-suc entries seen 0 more, nonzero-entry x [] (omega arith), is) (tally-append (take seen entries) (getD entries seen 0 ∷ []))
+
+-- The first n slots behind the first b ones, of which none is retired.
+pub none-block : (slots : List ℕ) (b n : ℕ) → noneRetired (nonzero (take b slots)) ≡ true
+    → noneRetired (nonzero (take (b + n) slots)) ≡ noneRetired (nonzero (take n (drop b slots)))
+none-block slots b n h =
+    rw (take-add b n slots, nonzero-append (take b slots) (take n (drop b slots)), none-append (nonzero (take b slots)) (nonzero (take n (drop b slots))), h)
+
+-- Where one of the first n slots is retired, one of more slots is.
+pub some-more : (slots : List ℕ) (n len : ℕ) → n ≤ len → noneRetired (nonzero (take n slots)) ≡ false → noneRetired (nonzero (take len slots)) ≡ false
+some-more slots n len h out =
+    let more = len - n in
+    let e : len ≡ n + more = omega arith in
+    rw (e, take-add n more slots, nonzero-append (take n slots) (take more (drop n slots)), none-append (nonzero (take n slots)) (nonzero (take more (drop n slots))), out)

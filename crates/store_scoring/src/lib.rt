@@ -26,18 +26,26 @@ fn scores(slot: u64) -> usize
     1
 }
 
-// The number of scoring entries in the `len` slots from `from` on.
-pub fn tally_of(slots: &[u64], from: usize, len: usize) -> usize
+// The number of retired boats in one slot, 1 or 0: bit 62 of what it holds.
+fn retired_in(slot: u64) -> usize
+    ensures { λ r. ⌜ r + tally (nonzero (slot ∷ [])) ≡ length (nonzero (slot ∷ [])) ⌝ }
+{
+    (slot / 4611686018427387904 % 2) as usize
+}
+
+// The number of scoring entries in the `len` slots from `from` on, which hold so many entries: all but those of retired boats.
+pub fn tally_of(slots: &[u64], from: usize, len: usize, entries: usize) -> usize
     requires room { ⌜ from + len ≤ length (now slots) ⌝ }
+    requires number { ⌜ entries ≡ length (nonzero (take len (drop from (now slots)))) ⌝ }
     ensures { λ r. ⌜ r ≡ tally (nonzero (take len (drop from (now (slots .entry))))) ⌝ }
 {
-    let mut scoring: usize = 0;
+    let mut retired: usize = 0;
     let mut i: usize = 0;
     while i < len {
-        scoring += scores(slots[from + i]);
+        retired += retired_in(slots[from + i]);
         i += 1;
     }
-    scoring
+    entries - retired
 }
 
 // The number of scoring entries among the first `count` entries of those in the slots from `from` on.
@@ -59,17 +67,32 @@ pub fn scoring_among(slots: &[u64], from: usize, count: usize) -> usize
     scoring
 }
 
-// No boat with an entry in the first `len` slots is retired. The slots are joined bit by bit and the bit is looked at once, since in a sheet
-// all have to be looked at.
-pub fn none_retired(slots: &[u64], len: usize) -> bool
-    requires room { ⌜ len ≤ length (now slots) ⌝ }
-    ensures { λ r. ⌜ r ≡ noneRetired (nonzero (take len (now (slots .entry)))) ⌝ }
+// No boat with an entry in the `len` slots from `from` on is retired. The slots are joined bit by bit and the bit is looked at once, since in a
+// sheet all have to be looked at.
+fn none_among(slots: &[u64], from: usize, len: usize) -> bool
+    requires room { ⌜ from + len ≤ length (now slots) ⌝ }
+    ensures { λ r. ⌜ r ≡ noneRetired (nonzero (take len (drop from (now (slots .entry))))) ⌝ }
 {
     let mut joined: u64 = 0;
     let mut i: usize = 0;
     while i < len {
-        joined = joined | slots[i];
+        joined = joined | slots[from + i];
         i += 1;
     }
     !is_retired(joined)
+}
+
+// No boat with an entry in the first `len` slots is retired: blocks of 64 first, then what is left.
+pub fn none_retired(slots: &[u64], len: usize) -> bool
+    requires room { ⌜ len ≤ length (now slots) ⌝ }
+    ensures { λ r. ⌜ r ≡ noneRetired (nonzero (take len (now (slots .entry)))) ⌝ }
+{
+    let mut at: usize = 0;
+    while 64 <= len - at {
+        if !none_among(slots, at, 64) {
+            return false;
+        }
+        at += 64;
+    }
+    none_among(slots, at, len - at)
 }

@@ -60,9 +60,13 @@ module _ {M levels k : ℕ} where
 -- ---- their tallies
 
 module _ (M : ℕ) (slots : List ℕ) where
+  pub slots-leaf : (k : ℕ) → rangeSlots M slots 0 k ≡ take (leafSlots M) (drop (leafSlots M * (k - 2 ^ height M)) slots)
+  unfolding rangeSlots
+  slots-leaf k = rw (mul-one k, mul-one (leafSlots M))
+
   pub tally-leaf : (k : ℕ) → tallyAt M slots 0 k ≡ tally (nonzero (take (leafSlots M) (drop (leafSlots M * (k - 2 ^ height M)) slots)))
-  unfolding tallyAt rangeSlots
-  tally-leaf k = rw (mul-one k, mul-one (leafSlots M))
+  unfolding tallyAt
+  tally-leaf k = ap (λ (xs : List ℕ). tally (nonzero xs)) (slots-leaf k)
 
   pub tally-small : (levels k : ℕ) → tallyAt M slots levels k ≤ leafSlots M * 2 ^ levels
   unfolding tallyAt rangeSlots

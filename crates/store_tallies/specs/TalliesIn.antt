@@ -2,7 +2,7 @@
 use mathlib.Core.Path.{_≡_}
 use mathlib.Core.List.{List}
 use Prim.Native.Nat.{ℕ, _+_, _-_, _*_, _^_, _≤_, _<_}
-use lib.ListN.{getD, take, drop}
+use lib.ListN.{length, getD, take, drop}
 use Rattle.tree_sizes.specs.Sizes.{height, leafSlots}
 use Rattle.store_layout.specs.Leaf.{nonzero}
 use Rattle.store_scoring.specs.Scoring.{tally}
@@ -20,6 +20,10 @@ rangeSlots M slots levels k = take (leafSlots M * 2 ^ levels) (drop (leafSlots M
 -- The number of scoring entries in them.
 unfoldable pub tallyAt : ℕ → List ℕ → ℕ → ℕ → ℕ
 tallyAt M slots levels k = tally (nonzero (rangeSlots M slots levels k))
+
+-- The counts at the leaves with the range numbers from `first` up to, not including, `end` are the numbers of entries in their slots.
+abbrev pub LeavesCounted : ℕ → List ℕ → ℕ → ℕ → List ℕ → Type 0
+LeavesCounted M slots first end counts = (k : ℕ) → first ≤ k → k < end → getD counts k 0 ≡ length (nonzero (rangeSlots M slots 0 k))
 
 -- The number of scoring entries in the slots before them.
 unfoldable pub tallyBefore : ℕ → List ℕ → ℕ → ℕ → ℕ

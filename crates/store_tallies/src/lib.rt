@@ -4,26 +4,36 @@ ghost use Prim.Native.Nat.{ℕ, _+_, _*_, _^_, _≤_, _<_};
 ghost use lib.ListN.{length};
 ghost use Rattle.tree_sizes.specs.Sizes as sizes;
 ghost use Rattle.tree_sizes.specs.Sizes.{height};
-ghost use Rattle.store_tallies.specs.TalliesIn.{tallyAt, TalliesBut, TalliesIn};
+ghost use Rattle.store_tallies.specs.TalliesIn.{tallyAt, LeavesCounted, TalliesBut, TalliesIn};
 ghost use Rattle.store_tallies.specs.Updating.{Filled, halvesSum};
 ghost use Rattle.store_tallies.specs.Path.{pathTally};
+use store_layout::count_at;
 use store_scoring::tally_of;
 use tree_sizes::Size;
 use tree_sizes::power;
 
-// Counts the scoring entries of the leaves with the range numbers from `first` up to, not including, `end`.
-fn count_leaves(size: Size, slots: &[u64], first: usize, end: usize, tallies: &mut [u32])
+// Counts the scoring entries of the leaves with the range numbers from `first` up to, not including, `end`, whose counts are given.
+fn count_leaves(
+    size: Size,
+    slots: &[u64],
+    counts: &[u32],
+    first: usize,
+    end: usize,
+    tallies: &mut [u32],
+)
     requires most { ⌜ size .m < 2 ^ 30 ⌝ }
     requires slots { ⌜ sizes.slots (size .m) ≤ length (now slots) ⌝ }
     requires room { ⌜ 2 * 2 ^ height (size .m) ≤ length (now tallies) ⌝ }
     requires leaves { ⌜ (2 ^ height (size .m) ≤ first) × (first ≤ end) × (end ≤ 2 * 2 ^ height (size .m)) ⌝ }
+    requires numbers { ⌜ end ≤ length (now counts) ⌝ }
+    requires counted { ⌜ LeavesCounted (size .m) (now slots) first end (now counts) ⌝ }
     ensures { λ _. ⌜ Filled (tallyAt (size .m) (now (slots .entry)) 0) first end (now (tallies .entry)) (now (tallies .exit)) ⌝ }
 {
     let s = size.leaf_slots();
     let leaves = power(size.height());
     let mut k = first;
     while k < end {
-        tallies[k] = tally_of(slots, s * (k - leaves), s) as u32;
+        tallies[k] = tally_of(slots, s * (k - leaves), s, count_at(counts, k)) as u32;
         k += 1;
     }
 }
@@ -43,16 +53,26 @@ fn add_halves(tallies: &mut [u32], first: usize, end: usize)
 }
 
 // Brings the tallies up to date where they may be wrong: at the ranges that have one of the leaves with the range numbers from `first` to
-// `last`. The leaves are counted, and then, row by row, the ranges above them get the sums over their halves.
-pub fn update_tallies(size: Size, slots: &[u64], first: usize, last: usize, tallies: &mut [u32])
+// `last`, whose counts are given. The scoring entries of the leaves are counted, and then, row by row, the ranges above them get the sums
+// over their halves.
+pub fn update_tallies(
+    size: Size,
+    slots: &[u64],
+    counts: &[u32],
+    first: usize,
+    last: usize,
+    tallies: &mut [u32],
+)
     requires most { ⌜ size .m < 2 ^ 30 ⌝ }
     requires slots { ⌜ sizes.slots (size .m) ≤ length (now slots) ⌝ }
     requires room { ⌜ 2 * 2 ^ height (size .m) ≤ length (now tallies) ⌝ }
     requires leaves { ⌜ (2 ^ height (size .m) ≤ first) × (first ≤ last) × (last < 2 * 2 ^ height (size .m)) ⌝ }
+    requires numbers { ⌜ last < length (now counts) ⌝ }
+    requires counted { ⌜ LeavesCounted (size .m) (now slots) first (last + 1) (now counts) ⌝ }
     requires others { ⌜ TalliesBut (size .m) (now slots) first (last + 1) (now tallies) ⌝ }
     ensures { λ _. ⌜ TalliesIn (size .m) (now (slots .entry)) (now (tallies .exit)) ⌝ }
 {
-    count_leaves(size, slots, first, last + 1, tallies);
+    count_leaves(size, slots, counts, first, last + 1, tallies);
     let mut from = first;
     let mut to = last;
     while 1 < from {

@@ -1,8 +1,8 @@
-// Slices of tallies compared, and the tallies of a sheet without retired boats: its counts, with 0 at number 0.
+// Slices of tallies compared, the tally of the whole sheet, and the tallies of a sheet without retired boats: its counts, with 0 at number 0.
 ghost use mathlib.Core.Path.{_≡_};
 ghost use mathlib.Core.List.{_∷_};
 ghost use Prim.Native.Nat.{_<_};
-ghost use lib.ListN.{length, drop};
+ghost use lib.ListN.{length, getD, drop};
 ghost use Rattle.base.specs.Lists.{equalLists};
 
 // The numbers of both slices from `from` on are the same. The differences are joined bit by bit and compared with 0 once, since in a sheet
@@ -26,6 +26,14 @@ pub fn same_numbers(a: &[u16], b: &[u16]) -> bool
     ensures { λ r. ⌜ r ≡ equalLists (now (a .entry)) (now (b .entry)) ⌝ }
 {
     same_from(a, b, 0)
+}
+
+// The tally of the whole sheet: that of the root, at number 1.
+pub fn root_tally(tallies: &[u16]) -> usize
+    requires { ⌜ 1 < length (now tallies) ⌝ }
+    ensures { λ r. ⌜ r ≡ getD (now (tallies .entry)) 1 0 ⌝ }
+{
+    tallies[1] as usize
 }
 
 // The tallies are the counts, but 0 at number 0.

@@ -14,16 +14,25 @@ use Rattle.call_tallies.proofs.put_updated.Tie as tie
 
 update-tallies-requires : tie.Need-update-tallies-requires
 update-tallies-requires c κs =
-    let s = c .before .before .before .before in
+    let s = c .before .before .before .before .before in
     let r = s .pre .0 in
-    (r .most, (r .slots-room, (omega (arith, r .ranges-room, s .pre .1 .0), (s .pre .1 .1 .0, s .pre .1 .1 .1))))
+    let n = s .pre .1 .1 .1 .0 in (
+      r .most,
+      (
+        r .slots-room,
+        (
+          omega (arith, r .ranges-room, s .pre .1 .0),
+          (s .pre .1 .1 .0, (omega (arith, n .room), (λ k from before. n .counted k (omega arith) (omega arith), s .pre .1 .1 .1 .1))),
+        ),
+      ),
+    )
 
 write-counts-requires : tie.Need-write-counts-requires
 write-counts-requires c κs =
     let u = c .before .before .before .before in
-    let s = u .before .before .before .before .before in
+    let s = u .before .before .before .before .before .before in
     let r = s .pre .0 in
-    let same : length (c .before .before .before .before .update-tallies .last .1 .1 .1 .1 .0) ≡ length (now (s .args .numbers)) = search needs in
+    let same : length (c .before .before .before .before .update-tallies .last .1 .1 .1 .1 .1 .0) ≡ length (now (s .args .numbers)) = search needs in
     (omega (arith, s .pre .1 .0, same), (tallies-small (u .update-tallies .ensures) (2 ^ 16) (r .few), omega (arith, r .ranges-room, s .pre .1 .0, same)))
 
 same-length : tie.Need-same-length
@@ -36,8 +45,8 @@ returns : tie.Need-returns
 returns c =
     let k = c .before .before in
     let u = k .before .before .before .before .before in
-    let s = u .before .before .before .before .before in
-    let same : length (u .update-tallies .last .1 .1 .1 .1 .0) ≡ length (now (s .args .numbers)) = search needs in
+    let s = u .before .before .before .before .before .before in
+    let same : length (u .update-tallies .last .1 .1 .1 .1 .1 .0) ≡ length (now (s .args .numbers)) = search needs in
     λ words found size. k .write-counts .ensures ∙ ap (countOrder (height (s .args .size .m))) (tallies-only _ _ _ words (u .update-tallies .ensures) found (same ∙ s .pre .1 .0 ∙ sym size))
 
 pub put-updated-spec : {M : Type 1} → statement M

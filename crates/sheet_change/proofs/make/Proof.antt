@@ -1,9 +1,10 @@
 -- `make` meets its contract.
-use mathlib.Core.Path.{_≡_, sym, _∙_}
+use mathlib.Core.Path.{_≡_, sym, _∙_, ap}
 use mathlib.Core.List.{[]}
+use Prim.Native.Nat.{ℕ}
 use native.Mathlib.Omega.{arith}
 use denote.Ref.{now}
-use lib.ListN.{length}
+use lib.ListN.{replicate}
 use Rattle.call_outcomes.specs.declared.Answer.the-variants.{Changed}
 use Rattle.call_outcomes.specs.Outcome.{outcome}
 use Rattle.call_outcomes.specs.PlainCalls.{changing}
@@ -11,7 +12,7 @@ use Rattle.call_outcomes.specs.Untallied.{untallied, storeOf, outcomeOf}
 use Rattle.call_outcomes.specs.Clubs.{clubs}
 use Rattle.call_outcomes.specs.ClubsLaws.{clubs-ready, clubs-width}
 use Rattle.call_change.specs.SheetChangeLaws.{few, in-reach, update-ready, write-ready, before-few, change-ended, change-done}
-use Rattle.sheet_change.specs.TallyLaws.{sheet-ready, tallies-number, work-number, counts-number, tallies-ready, part-ready, numbers-unused, plain-ended, plain-made-by-slots, plain-made-by-counts}
+use Rattle.sheet_change.specs.TallyLaws.{sheet-ready, tallies-number, counts-number, tallies-ready, part-ready, counts-counted, plain-ended, plain-made-by-slots, plain-made-by-counts}
 use borrow.Author.Needs.{needs}
 use Rattle.sheet_change.proofs.make.Statement.{statement}
 use Rattle.sheet_change.proofs.make.Tie as tie
@@ -62,22 +63,23 @@ copy-counts-requires c κs =
 
 write-tallies-requires : tie.Need-write-tallies-requires
 write-tallies-requires c κs =
-    let w = c .before .before .before .before .before .before .before .before in
+    let w = c .before .before .before .before .before .before .before .before .before in
     let s = w .before .before .before .before .before in
     let u = s .before .before .before .before in
-    let start = u .before .before .before .before .before .before .before .before .before .before in
-    let pre = start .pre in
-    let many = tallies-number pre in
-    let same : length (u .update .last .1 .1 .1 .0) ≡ length (now (start .args .work)) = search needs in (
+    let pre = u .before .before .before .before .before .before .before .before .before .before .pre in
+    let many = tallies-number pre in (
       rw many (tallies-ready pre _ _ _ (u .update .ensures) _ _ _ (s .size .given .1) (w .write-drawn .ensures) _ (made w)),
       (
         part-ready pre _ _ _ (u .update .ensures) _ _ _ (s .size .given .1) (w .write-drawn .ensures) _ (made w),
         (
-          same ∙ work-number pre ∙ sym many,
-          numbers-unused pre _ _ _ (u .update .ensures) _ _ _ (s .size .given .1) (w .write-drawn .ensures) _ (made w),
+          counts-counted pre _ _ _ (u .update .ensures) _ _ _ (s .size .given .1) (w .write-drawn .ensures) _ (made w),
+          ap (λ (k : ℕ). replicate k 0) (sym many),
         ),
       ),
     )
+
+slice-aggregate-write-tallies : tie.Need-slice-aggregate-write-tallies
+slice-aggregate-write-tallies c = search needs
 
 enum-told : tie.Need-enum-told
 enum-told c = search needs
@@ -118,8 +120,8 @@ same-length-8 c = search needs
 
 returns-2 : tie.Need-returns-2
 returns-2 c =
-    let k = c .before .before .before .before in
-    let t = k .before .before .before .before in
+    let k = c .before .before .before in
+    let t = k .before .before .before .before .before in
     let w = t .before .before .before .before .before in
     let s = w .before .before .before .before .before in
     let u = s .before .before .before .before in
@@ -149,6 +151,7 @@ make-spec =
     enum-known-size
     write-drawn-requires
     copy-counts-requires
+    slice-aggregate-write-tallies
     write-tallies-requires
     enum-told
     same-length

@@ -7,10 +7,9 @@ use Rattle.call_outcomes.specs.Untallied.{untalliedView, storeOf}
 use Rattle.call_outcomes.specs.Plain.{tallySlice, plainStoreOf}
 use Rattle.call_outcomes.specs.Clubs.{clubs}
 use Rattle.call_outcomes.specs.ClubsLaws.{clubs-ready}
-use Rattle.call_open.specs.Opening.{Opening, OpenedStore}
+use Rattle.call_open.specs.Opening.{Opening, OpenedStore, OpenedSheet}
 use Rattle.call_open.specs.AdmittedLaws.{opened-store, plain-decoded, opened-sheet}
 use Rattle.call_open.specs.SliceOpeningLaws.{look-lengths, look-refused, look-not, look-sheet}
-use Rattle.sheet_open.specs.Tested.{HoldsSheet}
 use borrow.Author.Needs.{needs}
 use Rattle.sheet_open.proofs.examine.Statement.{statement}
 use Rattle.sheet_open.proofs.examine.Tie as tie
@@ -26,8 +25,10 @@ sheet : (c : tie.After-n) → let x = c .before .before .before .before in
     OpenedStore (untalliedView clubs) numbered (storeOf (now (a .slots)) (now (a .counts))) (c .n .given .0 .0) (c .n .given .0 .1 .0) (x .examine .last .1 .1 .1 .0)
 sheet c = opened-store (untalliedView clubs) numbered _ (found (c .before .before .before .before)) _ _ (c .n .given .1)
 
-holds : (c : tie.After-n) → let a = c .before .before .before .before .before .before .before .before .before .before .before .before .args in HoldsSheet (c .n .given .0 .1 .0) (storeOf (now (a .slots)) (now (a .counts)))
-holds c = record { n = _; work = _; sheet = opened-sheet clubs _ (found (c .before .before .before .before)) _ _ (c .n .given .1) }
+holds : (c : tie.After-n) → let x = c .before .before .before .before in
+    let a = x .before .before .before .before .before .before .before .before .args in
+    OpenedSheet clubs (storeOf (now (a .slots)) (now (a .counts))) (c .n .given .0 .0) (c .n .given .0 .1 .0) (x .examine .last .1 .1 .1 .0)
+holds c = opened-sheet clubs _ (found (c .before .before .before .before)) _ _ (c .n .given .1)
 
 returns : tie.Need-returns
 returns c =
@@ -45,7 +46,7 @@ enum-known-n c = search needs
 
 is-tallied-requires : tie.Need-is-tallied-requires
 is-tallied-requires c κs =
-    let n = c .before in (holds n, n .before .before .before .before .before .before .before .if1 .left)
+    let n = c .before .before in (holds n, n .before .before .before .before .before .before .before .if1 .left)
 
 same-length : tie.Need-same-length
 same-length c = search needs
@@ -53,7 +54,7 @@ same-length c = search needs
 returns-2 : tie.Need-returns-2
 returns-2 c =
     let t = c .before in
-    let n = t .before .before in
+    let n = t .before .before .before in
     let x = n .before .before .before .before in
     let a = x .before .before .before .before .before .before .before .before .args in
     look-not (untalliedView clubs) (tallySlice clubs) numbered (plainStoreOf (now (a .slots)) (now (a .counts)) (now (a .tallies))) _ (x .before .before .before .if1 .left) (sheet n)
@@ -68,7 +69,7 @@ same-length-2 c = search needs
 returns-3 : tie.Need-returns-3
 returns-3 c =
     let t = c .before in
-    let n = t .before .before in
+    let n = t .before .before .before in
     let x = n .before .before .before .before in
     let a = x .before .before .before .before .before .before .before .before .args in
     look-sheet (untalliedView clubs) (tallySlice clubs) numbered (plainStoreOf (now (a .slots)) (now (a .counts)) (now (a .tallies))) _ (x .before .before .before .if1 .left) (sheet n)

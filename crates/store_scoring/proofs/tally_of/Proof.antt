@@ -1,59 +1,59 @@
--- `tally_of` meets its contract. The loop's invariant: the first i slots have so many scoring entries.
+-- `tally_of` meets its contract. The loop's invariant: the first i slots have so many retired boats, and the others score.
 use mathlib.Core.Path.{_≡_, refl}
-use Prim.Native.Nat.{_+_, _-_, _≤_}
+use Prim.Native.Nat.{_+_, _-_, _≤_, _<_}
 use native.Mathlib.Omega.{arith}
 use borrow.Author.Needs.{needs}
-use lib.ListN.{take, drop, length-drop}
+use lib.ListN.{length, getD, take, drop, length-take, length-drop}
 use lib.Seq.{getD-drop}
 use Rattle.store_layout.specs.Leaf.{nonzero}
+use Rattle.store_layout.specs.LeafLaws.{nonzero-length}
 use Rattle.store_scoring.specs.Scoring.{tally}
-use Rattle.store_scoring.specs.ScoringLaws.{tally-slots, tally-next}
+use Rattle.store_scoring.specs.ScoringLaws.{number-next, tally-next}
 use Rattle.store_scoring.proofs.tally_of.Statement.{statement}
 use Rattle.store_scoring.proofs.tally_of.Tie as tie
 
 abbrev Inv-loop : tie.InvT-loop
-Inv-loop slots from len scoring₀ i₀ scoring i = (i ≤ len) × (scoring ≡ tally (nonzero (take i (drop from slots))))
+Inv-loop slots from len entries retired₀ i₀ retired i =
+    (i ≤ len) × (retired + tally (nonzero (take i (drop from slots))) ≡ length (nonzero (take i (drop from slots))))
 
 abbrev μ-loop : tie.MeasureT-loop
-μ-loop slots from len scoring₀ i₀ scoring i = len - i
+μ-loop slots from len entries retired₀ i₀ retired i = len - i
 
--- The next slot is one of those that are asked for, and has the scoring entries that are added.
-next : (c : tie.After-scores Inv-loop μ-loop)
+-- With the retired boats of the next slot.
+next : (c : tie.After-retired-in Inv-loop μ-loop)
     → let l = c .before .before .before in
     let a = l .before .before .args in
-    l .loop .scoring + c .scores .result ≡ tally (nonzero (take (l .loop .i + 1) (drop (a .from) (a .slots .now))))
+    let front = nonzero (take (l .loop .i + 1) (drop (a .from) (a .slots .now))) in l .loop .retired + c .retired-in .result + tally front ≡ length front
 next c =
     let l = c .before .before .before in
     let a = l .before .before .args in
     let slots = drop (a .from) (a .slots .now) in
-    rw (
-      tally-next slots (l .loop .i) (omega (arith, length-drop (a .from) (a .slots .now))),
-      ← l .loop .inv .1,
-      getD-drop (a .from) (a .slots .now) (l .loop .i) 0,
-      ← c .scores .ensures,
-    )
+    let inside : l .loop .i < length slots = omega (arith, length-drop (a .from) (a .slots .now)) in
+    rw (tally-next slots (l .loop .i) inside, number-next slots (l .loop .i) inside, getD-drop (a .from) (a .slots .now) (l .loop .i) 0)
+    (omega (arith, l .loop .inv .1, c .retired-in .ensures))
 
 loop-holds : tie.Need-loop-holds Inv-loop μ-loop
 unfolding tally nonzero
 loop-holds c = (omega arith, refl)
 
-add-scores : tie.Need-add-scores Inv-loop μ-loop
-add-scores c = search needs
+add-retired-in : tie.Need-add-retired-in Inv-loop μ-loop
+add-retired-in c = search needs
 
-mul-scores : tie.Need-mul-scores Inv-loop μ-loop
-mul-scores c = search needs
+mul-retired-in : tie.Need-mul-retired-in Inv-loop μ-loop
+mul-retired-in c = search needs
 
-shared-slice-read-scores : tie.Need-shared-slice-read-scores Inv-loop μ-loop
-shared-slice-read-scores c = search needs
+shared-slice-read-retired-in : tie.Need-shared-slice-read-retired-in Inv-loop μ-loop
+shared-slice-read-retired-in c = search needs
 
-scores-requires : tie.Need-scores-requires Inv-loop μ-loop
-scores-requires c κs = search needs
+retired-in-requires : tie.Need-retired-in-requires Inv-loop μ-loop
+retired-in-requires c κs = search needs
 
-add-scoring : tie.Need-add-scoring Inv-loop μ-loop
-add-scoring c =
+add-retired : tie.Need-add-retired Inv-loop μ-loop
+add-retired c =
     let l = c .before .before .before in
     let a = l .before .before .args in
-    omega (arith, next c, tally-slots (l .loop .i + 1) (drop (a .from) (a .slots .now)))
+    let slots = drop (a .from) (a .slots .now) in
+    omega (arith, next c, nonzero-length (take (l .loop .i + 1) slots), length-take (l .loop .i + 1) slots)
 
 add-i : tie.Need-add-i Inv-loop μ-loop
 add-i c = search needs
@@ -64,11 +64,19 @@ loop-less c = search needs
 loop-again : tie.Need-loop-again Inv-loop μ-loop
 loop-again c = (omega arith, next c)
 
+-- All slots are looked at.
+all : (c : tie.After-loop Inv-loop μ-loop)
+    → let a = c .before .before .before .args in
+    let part = nonzero (take (a .len) (drop (a .from) (a .slots .now))) in c .before .loop .retired + tally part ≡ length part
+all c =
+    let every : c .before .loop .i ≡ c .before .before .before .args .len = omega arith in
+    rw every at (c .before .loop .inv .1)
+
+sub-result : tie.Need-sub-result Inv-loop μ-loop
+sub-result c = omega (arith, all c, c .before .before .before .pre .1)
+
 returns : tie.Need-returns Inv-loop μ-loop
-returns c =
-    let l = c .before in
-    let all : l .loop .i ≡ l .before .before .args .len = omega arith in
-    rw all at (l .loop .inv .1)
+returns c = omega (arith, all c, c .before .before .before .pre .1)
 
 pub tally-of-spec : {M : Type 1} → statement M
 tally-of-spec =
@@ -77,12 +85,13 @@ tally-of-spec =
     Inv-loop
     μ-loop
     loop-holds
-    add-scores
-    mul-scores
-    shared-slice-read-scores
-    scores-requires
-    add-scoring
+    add-retired-in
+    mul-retired-in
+    shared-slice-read-retired-in
+    retired-in-requires
+    add-retired
     add-i
     loop-less
     loop-again
+    sub-result
     returns)

@@ -5,14 +5,14 @@ use Prim.Native.Nat.{ℕ, _+_, _-_, _*_, _^_, _≤_}
 use native.Mathlib.Omega.{arith}
 use borrow.Author.Needs.{needs}
 use denote.Ref.{now}
-use lib.ListN.{take, drop}
+use lib.ListN.{length, take, drop}
 use Rattle.tree_sizes.specs.Sizes.{height, slots}
 use Rattle.tree_sizes.specs.SizeLaws.{height-most, leafSlots-most, slots-le}
 use Rattle.store_layout.specs.Leaf.{nonzero}
 use Rattle.store_scoring.specs.Scoring.{tally}
 use Rattle.store_scoring.specs.ScoringLaws.{tally-slots}
 use Rattle.store_tallies.specs.Updating.{Filled}
-use Rattle.store_tallies.specs.SumLaws.{tally-leaf, leaf-room}
+use Rattle.store_tallies.specs.SumLaws.{slots-leaf, tally-leaf, leaf-room}
 use Rattle.store_tallies.specs.UpdatingLaws.{filled-none, filled-next, filled-by}
 use Rattle.store_tallies.proofs.count_leaves.Statement.{statement}
 use Rattle.store_tallies.proofs.count_leaves.Tie as tie
@@ -22,14 +22,14 @@ abbrev counted : List ℕ → ℕ → ℕ → ℕ → ℕ
 counted slots s leaves k = tally (nonzero (take s (drop (s * (k - leaves)) slots)))
 
 abbrev Inv-loop : tie.InvT-loop
-Inv-loop slots first end tallies₀ s leaves k₀ tallies k = (first ≤ k) × (k ≤ end) × Filled (counted slots s leaves) first k tallies₀ tallies
+Inv-loop slots counts first end tallies₀ s leaves k₀ tallies k = (first ≤ k) × (k ≤ end) × Filled (counted slots s leaves) first k tallies₀ tallies
 
 abbrev μ-loop : tie.MeasureT-loop
-μ-loop slots first end tallies₀ s leaves k₀ tallies k = end - k
+μ-loop slots counts first end tallies₀ s leaves k₀ tallies k = end - k
 
 -- The size of the sheet, and what the numbers of the code are in it.
 abbrev size : tie.After-power Inv-loop μ-loop → ℕ
-size c = c .before .before .before .before .before .args .size .m
+size c = c .before .before .before .before .before .before .args .size .m
 
 first-leaf : (c : tie.After-power Inv-loop μ-loop) → c .power .result ≡ 2 ^ height (size c)
 first-leaf c = c .power .ensures ∙ ap (λ (h : ℕ). 2 ^ h) (c .before .height .ensures)
@@ -53,7 +53,7 @@ height-requires : tie.Need-height-requires Inv-loop μ-loop
 height-requires c κs = search needs
 
 power-requires : tie.Need-power-requires Inv-loop μ-loop
-power-requires c κs = omega (arith, height-most (c .before .before .before .before .args .size .m) 32 (omega arith) (omega arith))
+power-requires c κs = omega (arith, height-most (c .before .before .before .before .before .args .size .m) 32 (omega arith) (omega arith))
 
 loop-holds : tie.Need-loop-holds Inv-loop μ-loop
 loop-holds c = (omega arith, omega arith, filled-none)
@@ -64,12 +64,25 @@ sub-tally-of c = omega (arith, leaf c .0)
 mul-tally-of : tie.Need-mul-tally-of Inv-loop μ-loop
 mul-tally-of c = omega (arith, leaf c .1, slots-le (size (c .before .before)))
 
+count-at-requires : tie.Need-count-at-requires Inv-loop μ-loop
+count-at-requires c κs = search needs
+
 tally-of-requires : tie.Need-tally-of-requires Inv-loop μ-loop
-tally-of-requires c κs = omega (arith, leaf c .1)
+tally-of-requires c κs =
+    let i = c .before in
+    let p = i .before .before in
+    let a = p .before .before .before .before .before .before in
+    let k = i .before .loop .k in (
+      omega (arith, leaf i .1),
+      rw (p .before .before .leaf-slots .ensures, first-leaf p)
+          (c .count-at .ensures
+          ∙ a .pre .1 .1 .1 .1 .1 k (omega arith) (omega arith)
+          ∙ ap (λ (xs : List ℕ). length (nonzero xs)) (slots-leaf (size p) (a .args .slots .now) k)),
+    )
 
 cast-tallies : tie.Need-cast-tallies Inv-loop μ-loop
 cast-tallies c =
-    let p = c .before .before .before in
+    let p = c .before .before .before .before in
     let s = p .before .before .leaf-slots in
     let few : c .tally-of .result ≤ s .result = rw (c .tally-of .ensures) (tally-slots (s .result) _) in
     omega (arith, few, s .ensures, leafSlots-most (size p) (omega arith))
@@ -88,7 +101,7 @@ loop-less c = search needs
 
 loop-again : tie.Need-loop-again Inv-loop μ-loop
 loop-again c =
-    (omega arith, omega arith, filled-next (c .before .before .loop .inv .2) (omega arith) (omega arith) _ (c .tally-of .ensures))
+    (omega arith, omega arith, filled-next (c .before .before .before .loop .inv .2) (omega arith) (omega arith) _ (c .tally-of .ensures))
 
 same-length : tie.Need-same-length Inv-loop μ-loop
 same-length c = search needs
@@ -97,7 +110,7 @@ returns : tie.Need-returns Inv-loop μ-loop
 returns c =
     let l = c .before in
     let p = l .before in
-    let a = p .before .before .before .before .before .args in
+    let a = p .before .before .before .before .before .before .args in
     let all : l .loop .k ≡ a .end = omega arith in
     filled-by (λ k. rw (p .before .before .leaf-slots .ensures, first-leaf p) (sym (tally-leaf (size p) (a .slots .now) k))) (rw all at (l .loop .inv .2))
 
@@ -113,6 +126,7 @@ count-leaves-spec =
     loop-holds
     sub-tally-of
     mul-tally-of
+    count-at-requires
     tally-of-requires
     cast-tallies
     mul-tallies

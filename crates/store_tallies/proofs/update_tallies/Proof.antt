@@ -10,24 +10,24 @@ use Rattle.store_tallies.proofs.update_tallies.Statement.{statement}
 use Rattle.store_tallies.proofs.update_tallies.Tie as tie
 
 abbrev Inv-loop : tie.InvT-loop
-Inv-loop slots first last tallies₀ from₀ to₀ tallies from to =
+Inv-loop slots counts first last tallies₀ from₀ to₀ tallies from to =
     (length tallies ≡ length tallies₀)
     × ((M : ℕ) → Updating M slots 0 from₀ to₀ tallies₀ → (levels : ℕ) × Updating M slots levels from to tallies)
 
 abbrev μ-loop : tie.MeasureT-loop
-μ-loop slots first last tallies₀ from₀ to₀ tallies from to = from
+μ-loop slots counts first last tallies₀ from₀ to₀ tallies from to = from
 
 -- The size of the sheet.
 abbrev size : tie.At-loop Inv-loop μ-loop → ℕ
-size c = c .before .before .before .before .before .before .before .args .size .m
+size c = c .before .before .before .before .before .before .before .before .args .size .m
 
 -- How far the rows are brought up to date where the loop's test is reached.
 rows : (c : tie.At-loop Inv-loop μ-loop)
-    → (levels : ℕ) × Updating (size c) (c .before .before .before .before .before .before .before .args .slots .now) levels (c .loop .from) (c .loop .to) (c .loop .tallies)
+    → (levels : ℕ) × Updating (size c) (c .before .before .before .before .before .before .before .before .args .slots .now) levels (c .loop .from) (c .loop .to) (c .loop .tallies)
 rows c =
-    let s = c .before .before .before .before .before .before .before in
+    let s = c .before .before .before .before .before .before .before .before in
     let leaves = s .pre .1 .1 .1 .0 in
-    c .loop .inv .1 (size c) (updating-leaves (leaves .0) (leaves .1) (leaves .2) (s .pre .1 .1 .1 .1) (c .before .before .before .count-leaves .ensures))
+    c .loop .inv .1 (size c) (updating-leaves (leaves .0) (leaves .1) (leaves .2) (s .pre .1 .1 .1 .1 .1 .1) (c .before .before .before .count-leaves .ensures))
 
 -- The row above has its tallies.
 room : (c : tie.In-loop Inv-loop μ-loop) → 2 * (c .before .loop .to / 2 + 1) ≤ length (c .before .loop .tallies)
@@ -40,7 +40,8 @@ add-count-leaves c = search needs
 
 count-leaves-requires : tie.Need-count-leaves-requires Inv-loop μ-loop
 count-leaves-requires c κs =
-    let p = c .before .before .before .pre in (omega arith, (p .1 .0, (omega arith, (omega arith, omega arith, omega arith))))
+    let p = c .before .before .before .before .pre in
+    (omega arith, (p .1 .0, (omega arith, ((omega arith, omega arith, omega arith), (omega arith, p .1 .1 .1 .1 .1 .0)))))
 
 loop-holds : tie.Need-loop-holds Inv-loop μ-loop
 loop-holds c = (refl, λ M w. (0, w))
