@@ -36,10 +36,6 @@ candidates-most : (M d : ℕ) → candidates M d ≤ M
 candidates-most M d =
     ceiling-least M _ (candidates M d) (candidates-are M d) M (omega (arith, mul-le-mul-right M (step-pos M d)))
 
-all-joined : (s a b c d : Bool) → (s && (a && b && c && d)) ≡ ((s && a && b && c) && d)
-all-joined true a b c d = refl
-all-joined false a b c d = refl
-
 module _ (counts : List ℕ) where
   -- ---- one range
 
@@ -136,18 +132,18 @@ module _ {counts : List ℕ} {c first : ℕ} where
         w .left ∙ rw none (and-true so-far)
 
     -- The next range, by what is read of it.
-    pub ranges-next : {k n b right half : ℕ} → k ≡ first + i → i < first → n ≡ getD counts k 0 → b ≡ getD counts (2 * k) 0
+    pub ranges-next : {k n b right half : ℕ} {balanced : Bool} → k ≡ first + i → i < first → n ≡ getD counts k 0 → b ≡ getD counts (2 * k) 0
         → right ≡ getD counts (2 * k + 1) 0 → half ≡ halfCandidates c
-        → RangesLeft counts c first (so-far && eqb (b + right) n && leb (n - n / 2) (b + half) && ltb (b + half) (n - n / 2 + c)) (i + 1)
+        → balanced ≡ (eqb (b + right) n && leb (n - n / 2) (b + half) && ltb (b + half) (n - n / 2 + c))
+        → RangesLeft counts c first (so-far && balanced) (i + 1)
     unfolding rangesTest sumsTest
-    ranges-next {k} {n} {b} {right} {half} k-is h n-is b-is right-is half-is =
+    ranges-next {k} {n} {b} {right} {half} {balanced} k-is h n-is b-is right-is half-is is =
         let some : first - i ≡ suc (first - (i + 1)) = omega arith in
         let at : suc (first + i) ≡ first + (i + 1) = omega arith in record {
           inside = omega arith;
           left =
               w .left
-              ∙ rw (some, at, ← k-is, ← n-is, ← b-is, ← right-is, ← half-is, ← ceilDiv-half n)
-              (all-joined so-far (eqb (b + right) n) (leb (n - n / 2) (b + half)) (ltb (b + half) (n - n / 2 + c)) _);
+              ∙ rw (some, at, ← k-is, ← n-is, ← b-is, ← right-is, ← half-is, ← ceilDiv-half n, is) (sym (and-assoc so-far _ _));
         }
 
 pub tree-leaf : (counts : List ℕ) (M h : ℕ) → h ≡ 0 → treeTest counts M h 0 1 ≡ true

@@ -2,6 +2,7 @@
 pub mod Ready
 pub mod Check
 pub mod TreeCheck
+pub mod RangeWords
 pub mod LevelCheck
 pub mod CheckLaws
 pub mod StoreCheck

@@ -8,14 +8,14 @@ use Rattle.tree_sizes.specs.Sizes.{Allowed, height, leafSlots, slots, Fits}
 -- The ranges of a level, from `first` on, with c candidates each.
 pub record LevelTestReady (counts : List ℕ) (c first : ℕ) : Type 0 where
   pub room : 4 * first ≤ length counts
-  pub small : c < 2 ^ 32
+  pub small : c < 2 ^ 31
 
 -- The root of a sheet of size M, h above the leaves, and the ranges below it.
 pub record TreeTestReady (counts : List ℕ) (M h : ℕ) : Type 0 where
   pub room : 2 * 2 ^ h ≤ length counts
   pub fits : Fits M h 0 (getD counts 1 0)
   pub least : 0 < h → 1 < M
-  pub most : M < 2 ^ 32
+  pub most : M < 2 ^ 31
 
 -- Room for the counts of every size that the entries can have.
 pub record CountsTestReady (entries : ℕ) (counts : List ℕ) : Type 0 where

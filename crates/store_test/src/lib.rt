@@ -1,6 +1,8 @@
 // The test whether a store is a sheet: its counts, its leaves, and that everything unused is zero.
 ghost use mathlib.Core.Path.{_≡_};
-ghost use Prim.Native.Nat.{_+_, _-_, _*_, _^_, _<_};
+ghost use mathlib.Core.Bool.{_&&_};
+ghost use Prim.Native.Nat.{_+_, _-_, _*_, _/_, _^_, _≤_, _<_};
+ghost use lib.Dec.{eqb, leb, ltb};
 ghost use lib.ListN.{length, getD};
 ghost use Rattle.store_layout.specs.Decode.{sheetTest};
 ghost use Rattle.store_layout.specs.Room.{CapacityReady};
@@ -12,22 +14,34 @@ use store_layout::Capacity;
 use store_layout::count_at;
 use tree_sizes::Size;
 
+// A range of n entries with c candidates has b entries in its left half and `right` in its right one: they add up, and the balance entry is a
+// candidate. In 32-bit numbers, of which four are compared at once.
+fn range_is_balanced(n: u32, b: u32, right: u32, half: u32, c: u32) -> bool
+    requires few { ⌜ (half ≤ c) × (c < 2 ^ 31) ⌝ }
+    ensures { λ r. ⌜ r ≡ (eqb (b + right) n && leb (n - n / 2) (b + half) && ltb (b + half) (n - n / 2 + c)) ⌝ }
+{
+    let left = std::num::wrapping_sub_u32(n, right);
+    let behind = std::num::wrapping_add_u32(b, half);
+    let place = std::num::wrapping_sub_u32(behind, n - n / 2);
+    (right <= n) & (b == left) & (place < c)
+}
+
 // The ranges from `first` on, as many as the number `first`, each with c candidates: those of a level. The balance entry of each is a
 // candidate, and the counts of its halves add up to its own. All are looked at, without a branch for each.
 fn level_is_balanced(counts: &[u32], c: usize, first: usize) -> bool
     requires { ⌜ LevelTestReady (now counts) c first ⌝ }
     ensures { λ r. ⌜ r ≡ rangesTest (now (counts .entry)) c first first ⌝ }
 {
-    let half = Size::half_candidates(c);
+    let half = Size::half_candidates(c) as u32;
+    let candidates = c as u32;
     let mut all = true;
     let mut i: usize = 0;
     while i < first {
         let k = first + i;
-        let n = count_at(counts, k);
-        let b = count_at(counts, 2 * k);
-        let right = count_at(counts, 2 * k + 1);
-        let middle = n - n / 2;
-        all = all & (b + right == n) & (middle <= b + half) & (b + half < middle + c);
+        let n = counts[k];
+        let b = counts[2 * k];
+        let right = counts[2 * k + 1];
+        all = all & range_is_balanced(n, b, right, half, candidates);
         i += 1;
     }
     all

@@ -18,7 +18,7 @@ returns c = sym (tree-leaf _ _ _ (c .if1 .taken))
 
 candidates-requires : tie.Need-candidates-requires Inv-loop μ-loop
 candidates-requires c κs =
-    let w = c .before .before .pre in (w .least (omega (arith, c .if1 .left)), (w .most, omega arith))
+    let w = c .before .before .pre in (w .least (omega (arith, c .if1 .left)), (omega (arith, w .most), omega arith))
 
 loop-holds : tie.Need-loop-holds Inv-loop μ-loop
 loop-holds c = levels-all (c .before .before .before .pre) (c .candidates .ensures)
