@@ -20,7 +20,7 @@ use Rattle.tree_counts.specs.declared.Part.{Part}
 use Rattle.tree_counts.specs.Ranges.{Perfect}
 use Rattle.tree_counts.specs.Counts.{shapeCounts, shapeIn}
 use Rattle.tree_counts.specs.RangeLaws.{balanced-perfect}
-use Rattle.tree_counts.specs.ShapeCountLaws.{length-shapeCounts, shapeCounts-size, shapeCounts-unused, shapeIn-shapeCounts}
+use Rattle.tree_counts.specs.ShapeCountLaws.{length-shapeCounts, shapeCounts-size, shapeIn-shapeCounts}
 use Rattle.tree_counts.specs.Confined.{Within, Confined}
 use Rattle.tree_walk.specs.declared.Updated.{Updated}
 use Rattle.tree_walk.specs.declared.Updated.the-variants as updated

@@ -4,7 +4,7 @@ use mathlib.Core.Bool.{true, _&&_, not}
 use mathlib.Core.Logic.{_≢_}
 use mathlib.Core.List.{List, [], _∷_}
 use mathlib.Core.Option.{none}
-use Prim.Native.Nat.{ℕ, _*_, _^_, _≤_}
+use Prim.Native.Nat.{ℕ}
 use native.Mathlib.Omega.{arith}
 use borrow.Author.Tests.{eqb-true, not-true}
 use lib.Dec.{eqb}
@@ -79,9 +79,6 @@ module _ {change : Change} {e n m : ℕ} {slots counts tallies work : List ℕ} 
 
   pub tallies-number : length tallies ≡ 256
   tallies-number = held .length-is
-
-  pub work-number : length work ≡ 256
-  work-number = changed.work-length clubs-ready sheet-ready
 
   contents : IsContents clubs (c .list) (c .shape)
   contents = changed.sound clubs-ready sheet-ready .0

@@ -1,6 +1,5 @@
 -- `answer_chunk` meets its contract. The loop's invariant: from here on the chunk comes to what it comes to from its start on.
 use Prim.Native.Nat.{ℕ, _-_, _≤_}
-use borrow.Author.Needs.{needs}
 use mathlib.Core.Path.{_≡_, refl, sym, _∙_}
 use native.Mathlib.Omega.{arith}
 use lib.ListN.{length, take}

@@ -1,5 +1,4 @@
 -- `all_score` meets its contract.
-use mathlib.Core.Path.{sym, _∙_}
 use borrow.Author.Tests.{ne-eqb, eq-eqb}
 use borrow.Author.Needs.{needs}
 use Rattle.sheet_change.proofs.all_score.Statement.{statement}

@@ -1,6 +1,6 @@
 -- `none_among` meets its contract. The loop's invariant: no boat of the first i of these slots is retired exactly where the joined numbers have
 -- no such bit.
-use mathlib.Core.Path.{_≡_, sym, _∙_, ap}
+use mathlib.Core.Path.{_≡_, sym}
 use mathlib.Core.Bool.{not}
 use Prim.Native.Nat.{_-_, _≤_}
 use native.Mathlib.Omega.{arith}

@@ -1,11 +1,11 @@
 -- `none_retired` meets its contract. The loop's invariant: no boat of the slots before the next block is retired.
 use mathlib.Core.Path.{_≡_, refl, sym, _∙_, ap}
-use mathlib.Core.Bool.{true, false, _&&_}
+use mathlib.Core.Bool.{true}
 use Prim.Native.Nat.{ℕ, _+_, _-_, _≤_}
 use native.Mathlib.Omega.{arith}
 use borrow.Author.Needs.{needs}
 use borrow.Author.Tests.{not-true, not-false}
-use lib.ListN.{take, drop}
+use lib.ListN.{take}
 use Rattle.store_layout.specs.Leaf.{nonzero}
 use Rattle.store_scoring.specs.Scoring.{noneRetired}
 use Rattle.store_scoring.specs.ScoringLaws.{none-block, some-more}
