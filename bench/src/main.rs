@@ -10,8 +10,9 @@
 //!
 //! Entries are random: every second one bears bit 63, so that a tied group has
 //! two boats on the average, and one in 50 is that of a retired boat. Some rows are on
-//! copies of the stores: "place tied" where all boats bear bit 63, "check none" where
-//! no boat has retired, "check many" and "place many" where about half of them have.
+//! copies of the stores: "place tied" where all boats bear bit 63, "check none", "insert
+//! none" and "delete none" where no boat has retired, "check many" and "place many" where
+//! about half of them have.
 //!
 //! Before the measuring all sides are compared with `tests/reference`
 //! ([`compare`]), before each length with each other, and after each turn the
@@ -106,6 +107,8 @@ struct Times {
     place: f64,
     tied: f64,
     check_none: f64,
+    insert_none: f64,
+    delete_none: f64,
     check_many: f64,
     place_many: f64,
 }
@@ -113,7 +116,7 @@ struct Times {
 /// A kind of call: its name, its time in a measurement, and its goal at each length, in bare scans of the store, if it has one.
 type Kind = (&'static str, fn(&Times) -> f64, Option<[f64; LENGTHS.len()]>);
 
-const KINDS: [Kind; 9] = [
+const KINDS: [Kind; 11] = [
     ("check", |t| t.check, Some([1.2, 1.3, 1.7, 2.5, 3.8])),
     ("insert", |t| t.insert, Some([1.3, 1.9, 2.4, 3.9, 5.5])),
     ("delete", |t| t.delete, Some([1.3, 1.9, 2.4, 3.9, 5.5])),
@@ -121,6 +124,8 @@ const KINDS: [Kind; 9] = [
     ("place", |t| t.place, Some([1.2, 1.3, 1.7, 2.5, 3.8])),
     ("place tied", |t| t.tied, None),
     ("check none", |t| t.check_none, None),
+    ("insert none", |t| t.insert_none, None),
+    ("delete none", |t| t.delete_none, None),
     ("check many", |t| t.check_many, None),
     ("place many", |t| t.place_many, None),
 ];
@@ -147,24 +152,32 @@ fn with_retired(stores: &[Store], mut retired: impl FnMut() -> bool) -> Vec<Stor
     copies
 }
 
-/// One measurement of all calls on stores of n entries. Inserts and deletes
-/// come in turn, so that the stores have n entries again at the end.
-fn measure<S: Side>(n: usize, stores: &mut [Store], arguments: &[Arguments]) -> Times {
+/// The times of an insert and of a delete on stores of n entries. They come in turn, so
+/// that the stores have n entries again at the end; `entry` tells what is put in.
+fn change_times<S: Side>(n: usize, stores: &mut [Store], arguments: &[Arguments], entry: fn(u64) -> u64) -> (f64, f64) {
     let calls = stores.len() * ROUNDS;
-    let mut times = Times::default();
+    let (mut insert, mut delete) = (0.0, 0.0);
     for round in arguments.chunks_exact(2 * stores.len()) {
         let (inserts, deletes) = round.split_at(stores.len());
-        times.insert += time_of(calls, || {
+        insert += time_of(calls, || {
             for (store, a) in stores.iter_mut().zip(inserts) {
-                accepted(S::insert(store, a.rank(n + 1), a.entry, &a.words));
+                accepted(S::insert(store, a.rank(n + 1), entry(a.entry), &a.words));
             }
         });
-        times.delete += time_of(calls, || {
+        delete += time_of(calls, || {
             for (store, a) in stores.iter_mut().zip(deletes) {
                 accepted(S::delete(store, a.rank(n + 1), &a.words));
             }
         });
     }
+    (insert, delete)
+}
+
+/// One measurement of all calls on stores of n entries.
+fn measure<S: Side>(n: usize, stores: &mut [Store], arguments: &[Arguments]) -> Times {
+    let calls = stores.len() * ROUNDS;
+    let mut times = Times::default();
+    (times.insert, times.delete) = change_times::<S>(n, stores, arguments, |entry| entry);
     let count = n.min(64);
     let mut output = [0; 64];
     let rounds = || arguments.chunks_exact(2 * stores.len());
@@ -186,8 +199,9 @@ fn measure<S: Side>(n: usize, stores: &mut [Store], arguments: &[Arguments]) -> 
     times.place = time_of(calls, || places(stores));
     let tied = all_tied(stores);
     times.tied = time_of(calls, || places(&tied));
-    let none = with_retired(stores, || false);
+    let mut none = with_retired(stores, || false);
     times.check_none = time_of(calls, || checks(&none));
+    (times.insert_none, times.delete_none) = change_times::<S>(n, &mut none, arguments, |entry| entry & !RETIRED);
     // The same boats on all sides, in every measurement.
     let mut random = SplitMix64::new(3);
     let many = with_retired(stores, || random.below(2) == 0);
