@@ -17,9 +17,9 @@ use Rattle.tree_rules.specs.Rules.{InReach}
 use Rattle.tree_rules.specs.ChangeList.{changeList}
 use Rattle.store_layout.specs.declared.Capacity.{Capacity}
 use Rattle.call_outcomes.specs.declared.Cause.the-variants.{EntryZero, Rank, Full, OutputShort}
-use Rattle.call_outcomes.specs.Kind.{applied}
+use Rattle.call_outcomes.specs.Kind.{View, applied}
 use Rattle.call_outcomes.specs.Causes.{firstOf}
-use Rattle.call_outcomes.specs.PlainCalls.{PlainChange, insertAt, deleteAt, plainChange, changeCause, editOf, questionCause, readRanks, placeOf}
+use Rattle.call_outcomes.specs.PlainCalls.{PlainChange, insertAt, deleteAt, plainChange, changeCause, editOf, Question, questionCause, readRanks, placeOf, AsPlain, plainCalls}
 use Rattle.call_outcomes.specs.DecisionLaws.{first-none}
 
 -- ---- insert and delete
@@ -76,3 +76,7 @@ read-within first last room n free =
 pub place-within : (i n : ℕ) → questionCause (placeOf i) n ≡ none → i < n
 unfolding questionCause
 place-within i n free = leb-false n i (first-none (leb n i) Rank none free .0)
+
+-- Every question of a kind with the calls of plain sheets is itself.
+pub plain-itself : (view : View) (entries : ℕ) (q : Question) → AsPlain (record { view = view; calls = plainCalls entries }) q q
+plain-itself view entries q = record { causes = λ list. refl; reply = λ list. refl; written = λ list. refl }

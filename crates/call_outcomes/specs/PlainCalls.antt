@@ -2,6 +2,7 @@
 use mathlib.Core.Bool.{_||_}
 use mathlib.Core.List.{List, []}
 use mathlib.Core.Option.{Option, none}
+use mathlib.Core.Path.{_≡_}
 use Prim.Native.Nat.{ℕ, _+_, _-_}
 use lib.Dec.{eqb, leb, ltb}
 use lib.ListN.{length, take, drop}
@@ -13,7 +14,7 @@ use Rattle.call_outcomes.specs.declared.Cause.{Cause}
 use Rattle.call_outcomes.specs.declared.Cause.the-variants.{EntryZero, Rank, Full, OutputShort}
 use Rattle.call_outcomes.specs.declared.Answer.{Answer}
 use Rattle.call_outcomes.specs.declared.Answer.the-variants.{Entries, Placed, Checked}
-use Rattle.call_outcomes.specs.Kind.{Edit, Calls, CallOf, change, ask}
+use Rattle.call_outcomes.specs.Kind.{Edit, Calls, CallOf, change, ask, Kind}
 use Rattle.call_outcomes.specs.Causes.{firstOf}
 
 -- ---- insert and delete
@@ -64,6 +65,12 @@ unfoldable pub writtenFor : Question → List ℕ → List ℕ
 writtenFor (readRanks first last room) list = take (last - first + 1) (drop first list)
 writtenFor (placeOf i) list = []
 writtenFor countOf list = []
+
+-- A question of any kind of sheet that is the question p of a plain one: by the list the same causes, answer and entries written.
+pub record AsPlain (kind : Kind) (q : kind .calls .Question) (p : Question) : Type 0 where
+  pub causes : (list : List ℕ) → kind .calls .questionCause q list ≡ questionCause p (length list)
+  pub reply : (list : List ℕ) → kind .calls .reply q list ≡ replyTo p list
+  pub written : (list : List ℕ) → kind .calls .written q list ≡ writtenFor p list
 
 -- ---- the calls together
 

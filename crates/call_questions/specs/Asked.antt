@@ -8,7 +8,6 @@ use Rattle.store_layout.specs.Room.{CapacityReady}
 use Rattle.store_tallies.specs.Tallies.{rangeTallies, layTallies}
 use Rattle.call_outcomes.specs.declared.Answer.{Answer}
 use Rattle.call_outcomes.specs.declared.Answer.the-variants.{Refused}
-use Rattle.call_outcomes.specs.Kind.{Kind}
 use Rattle.call_outcomes.specs.PlainCalls.{Question, questionCause, replyTo, writtenFor}
 use Rattle.call_outcomes.specs.Untallied.{storeOf}
 use Rattle.call_open.specs.declared.Opened.{Opened}
@@ -64,9 +63,3 @@ pub record ByNumber (m : ℕ) (slots work words : List ℕ) : Type 0 where
   pub ready : CapacityReady cap
   pub sheet : OpenedSheet cap (storeOf slots counts) entries m work
   pub tallies : words ≡ rangeTallies (cap .counts) (sheet .contents .list) (sheet .contents .shape)
-
--- A question of any kind of sheet that is the question p of a plain one: by the list the same causes, answer and entries written.
-pub record AsPlain (kind : Kind) (q : kind .calls .Question) (p : Question) : Type 0 where
-  pub causes : (list : List ℕ) → kind .calls .questionCause q list ≡ questionCause p (length list)
-  pub reply : (list : List ℕ) → kind .calls .reply q list ≡ replyTo p list
-  pub written : (list : List ℕ) → kind .calls .written q list ≡ writtenFor p list

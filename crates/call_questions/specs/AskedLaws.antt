@@ -11,12 +11,12 @@ use Rattle.call_outcomes.specs.Kind.{ask, Kind, StoreFor}
 use Rattle.call_outcomes.specs.Causes.{Decision, refuse, accept, storeDecision, lookedAt, decision}
 use Rattle.call_outcomes.specs.Outcome.{Outcome, outcome}
 use Rattle.call_outcomes.specs.DecisionLaws.{accepted, question-outcome}
-use Rattle.call_outcomes.specs.PlainCalls.{Question, questionCause, writtenFor}
+use Rattle.call_outcomes.specs.PlainCalls.{Question, questionCause, writtenFor, AsPlain}
 use Rattle.call_open.specs.declared.Opened.{Opened}
 use Rattle.call_open.specs.declared.Opened.the-variants as opened
 use Rattle.call_open.specs.Opening.{openedAs, admitted}
 use Rattle.call_open.specs.AdmittedLaws.{question-opened, call-admitted, call-refused}
-use Rattle.call_questions.specs.Asked.{Reply, askedBy, asked, HasNumber, Answers, AsPlain}
+use Rattle.call_questions.specs.Asked.{Reply, askedBy, asked, HasNumber, Answers}
 
 module _ (kind : Kind) (store : StoreFor kind) {found : Opened} (is : found ≡ openedAs (storeDecision (kind .view) store)) {list : List ℕ}
     (lists : (c : Contents) → storeDecision (kind .view) store ≡ accept c → c .list ≡ list) where

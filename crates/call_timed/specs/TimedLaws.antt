@@ -1,5 +1,5 @@
 -- Timed sheets are a kind of sheet, for every capacity with room enough.
-use mathlib.Core.Path.{_≡_}
+use mathlib.Core.Path.{_≡_, refl}
 use mathlib.Core.Bool.{true}
 use mathlib.Core.List.{List}
 use mathlib.Core.Option.{none}
@@ -15,15 +15,15 @@ use Rattle.store_keys.specs.Key.{key, RiseFrom, Rises, rankOf, present}
 use Rattle.store_keys.specs.KeyLaws.{rises-true, true-rises, rank-most, insert-rises, delete-rises, key-entry}
 use Rattle.store_balance.specs.BalanceLaws.{length-layBalance}
 use Rattle.call_outcomes.specs.declared.Cause.the-variants.{EntryZero, EntryPresent}
-use Rattle.call_outcomes.specs.Kind.{LawfulCalls, applied, Lawful}
+use Rattle.call_outcomes.specs.Kind.{View, LawfulCalls, applied, Lawful}
 use Rattle.call_outcomes.specs.Causes.{firstOf}
 use Rattle.call_outcomes.specs.DecisionLaws.{first-none}
-use Rattle.call_outcomes.specs.PlainCalls.{changeCause, editOf}
+use Rattle.call_outcomes.specs.PlainCalls.{changeCause, editOf, Question, AsPlain}
 use Rattle.call_outcomes.specs.Slice.{LawfulSlice}
 use Rattle.call_outcomes.specs.SliceLaws.{lengths-with, with-lengths, slice-lawful}
 use Rattle.call_outcomes.specs.Plain.{plainView, plain}
 use Rattle.call_outcomes.specs.PlainLaws.{plain-right, right-plain, plain-lawful}
-use Rattle.call_timed.specs.Timed.{IsTimedList, balanceSlice, timedView, TimedStore, TimedLengths, TimedChange, insertEntry, deleteRank, plainly, timedChangeCause, timedCalls, timed}
+use Rattle.call_timed.specs.Timed.{IsTimedList, balanceSlice, timedView, TimedStore, TimedLengths, TimedChange, insertEntry, deleteRank, plainly, timedChangeCause, asPlain, timedQuestionCause, timedReply, timedWritten, timedCalls, timed}
 
 -- ---- the store
 
@@ -84,3 +84,10 @@ timed-lawful cap roomy = record {
   view = slice-lawful (plainView cap) (balanceSlice cap) (plain-lawful cap roomy .view) (balance-lawful cap roomy);
   calls = timed-calls cap roomy;
 }
+
+-- ---- read, place and check
+
+-- A question of a plain sheet, asked about a timed one.
+pub timed-as-plain : (view : View) (entries : ℕ) (q : Question) → AsPlain (record { view = view; calls = timedCalls entries }) (asPlain q) q
+unfolding timedQuestionCause timedReply timedWritten
+timed-as-plain view entries q = record { causes = λ list. refl; reply = λ list. refl; written = λ list. refl }

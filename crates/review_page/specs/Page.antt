@@ -1,13 +1,14 @@
 -- The reviewer's page: what is claimed of the clubs' sheets, a sentence and a theorem each. The definitions that the statements name stand in
 -- store_order (TreeOrder), store_scoring (Scoring), store_tallies (Tallies, TalliesIn, HoldsTallies), store_ties (Groups, Ties), store_keys (Key),
 -- call_outcomes (Kind, Causes, Outcome, PlainCalls, Untallied, Slice, Plain, Clubs), call_timed (Timed), call_orders (Conversion, NumberOrder,
--- Converts), call_history (History, TapeRuns), frame_sessions (Session) and frame_chunks (Chunk, Input).
-use mathlib.Core.Path.{_≡_}
+-- Converts), call_history (History, TapeRuns), call_corrections (Accepted, Reading), frame_sessions (Session) and frame_chunks (Chunk, Input).
+use mathlib.Core.Path.{_≡_, refl}
 use mathlib.Core.Bool.{Bool, true, false}
-use mathlib.Core.Logic.{_≢_, _↔_}
+use mathlib.Core.Logic.{_≢_, _↔_, _⊎_}
 use mathlib.Core.List.{List, [], _∷_, _++_, map}
 use mathlib.Core.Option.{some}
-use Prim.Native.Nat.{ℕ, _+_, _-_, _*_, _^_, _≤_, _<_}
+use Prim.Native.Nat.{ℕ, suc, _+_, _-_, _*_, _^_, _≤_, _<_}
+use native.Mathlib.Omega.{arith}
 use lib.ListN.{length, getD, take, drop}
 use Rattle.base.specs.Lists.{Every, total}
 use Rattle.draw_shares.specs.Program.{Among, Draws}
@@ -28,11 +29,12 @@ use Rattle.store_order.specs.Copied.{up}
 use Rattle.store_layout.specs.Layout.{Store, layOut}
 use Rattle.store_layout.specs.Sheet.{IsContents}
 use Rattle.call_outcomes.specs.declared.Cause.{Cause}
-use Rattle.call_outcomes.specs.declared.Cause.the-variants.{NotASheet, NotTimed, EntryPresent, TapeEnded}
+use Rattle.call_outcomes.specs.declared.Cause.the-variants.{NotASheet, NotTimed, EntryPresent, OutputShort, TapeEnded}
 use Rattle.call_outcomes.specs.declared.Answer.the-variants.{Checked, Changed, Present, Converted, Refused}
 use Rattle.call_outcomes.specs.Causes.{argumentCause}
 use Rattle.call_outcomes.specs.Outcome.{outcome, callProgram}
-use Rattle.call_outcomes.specs.PlainCalls.{Call, delete, place, check, placed, changing}
+use Rattle.call_outcomes.specs.PlainCalls.{Call, insertAt, deleteAt, editOf, insert, delete, place, check, placed, changing}
+use Rattle.call_outcomes.specs.PlainCallLaws.{plain-itself}
 use Rattle.call_outcomes.specs.Untallied.{IsList, untallied}
 use Rattle.call_outcomes.specs.Plain.{plainView, plain, PlainStore, PlainLengths, layPlain, equalPlain}
 use Rattle.call_outcomes.specs.PlainLaws.{plain-right}
@@ -44,7 +46,7 @@ use Rattle.call_orders.specs.ConversionLaws as conversions
 use Rattle.call_orders.specs.NumberOrder.{layNumbered, inNumberOrder}
 use Rattle.call_orders.specs.Converts.{converted}
 use Rattle.call_orders.specs.OrderLaws as orders
-use Rattle.call_history.specs.History.{history, listAtEnd, SameTable, Sent, clearing, lastStore, NoneEnds, facesSent, callsOf}
+use Rattle.call_history.specs.History.{history, finalList, listAtEnd, SameTable, Sent, clearing, lastStore, NoneEnds, facesSent, callsOf}
 use Rattle.call_history.specs.Shares as shares
 use Rattle.call_history.specs.Refusals as refusals
 use Rattle.call_history.specs.TapeRuns.{tapeRuns, tapesDecide, CallsAmong, callsRuns}
@@ -71,8 +73,13 @@ use Rattle.store_ties.specs.ExactLaws as exact
 use Rattle.store_keys.specs.Key.{key, Rises, rankOf, present}
 use Rattle.store_keys.specs.KeyLaws as keys
 use Rattle.call_timed.specs.Timed as timed-calls
-use Rattle.call_timed.specs.Timed.{TimedStore, layTimed, TimedLengths, equalTimed, timedView, foundAt, timed, TimedCall}
-use Rattle.call_timed.specs.TimedLaws.{timed-right}
+use Rattle.call_timed.specs.Timed.{TimedStore, layTimed, TimedLengths, equalTimed, timedView, insertEntry, deleteRank, plainly, asPlain, foundAt, timed, TimedCall}
+use Rattle.call_timed.specs.TimedLaws.{timed-right, timed-as-plain}
+use Rattle.call_corrections.specs.Accepted.{AllAccepted}
+use Rattle.call_corrections.specs.Reading.{ranks, plainReading, timedReading}
+use Rattle.call_corrections.specs.Corrections as corrections
+use Rattle.call_corrections.specs.TimedCorrections as timed-corrections
+use Rattle.call_corrections.specs.ReadingLaws as readings
 use Rattle.timed_history.specs.Clause as timed-clause
 use Rattle.timed_history.specs.Clause.{clubs-timed, timed-suppliable}
 use Rattle.timed_history.specs.TimedSheets as timed-sheets
@@ -399,6 +406,133 @@ pub shape-shares : (calls calls′ : List Call) (store store′ : PlainStore) �
     ≐ share (equalPlain (layPlain clubs (listAtEnd (plain clubs) calls′) s)) (history (plain clubs) calls′ store′)
 shape-shares calls calls′ store store′ right right′ =
     shares.shape-shares (plain clubs) clubs-lawful calls calls′ store store′ (plain-right clubs store right) (plain-right clubs store′ right′)
+
+-- ---- corrections in either order
+
+-- For ranks i ≤ j ≤ N, N at most 1,022 and entries other than zero: inserting one boat at j and then another at i leads to the same list as
+-- inserting the second at i and then the first at j + 1.
+pub either-order : (i j a b : ℕ) (list : List ℕ) → i ≤ j → j ≤ length list → length list ≤ 1022 → a ≢ 0 → b ≢ 0
+    → finalList (plain clubs) (insert j a ∷ insert i b ∷ []) list ≡ finalList (plain clubs) (insert i b ∷ insert (suc j) a ∷ []) list
+either-order i j a b list in-order inside few = corrections.either-order (plainView clubs) 1024 i j a b list in-order inside (omega arith)
+
+-- All four calls are accepted, on every sheet of the list to which the calls before lead.
+pub both-accepted : (i j a b : ℕ) (list : List ℕ) → i ≤ j → j ≤ length list → length list ≤ 1022 → a ≢ 0 → b ≢ 0
+    → AllAccepted (plain clubs) (insert j a ∷ insert i b ∷ []) list × AllAccepted (plain clubs) (insert i b ∷ insert (suc j) a ∷ []) list
+both-accepted i j a b list in-order inside few some-a some-b =
+    corrections.both-accepted (plainView clubs) 1024 i j a b list in-order inside (omega arith) some-a some-b clubs-lawful
+
+-- Where both orders follow one and the same cleared history, every store has the same share, whatever calls come behind.
+pub either-shares : (before after : List Call) (store store′ : PlainStore) → PlainLengths clubs store → PlainLengths clubs store′
+    → (i j a b : ℕ) → i ≤ j → j ≤ length (listAtEnd (plain clubs) before) → length (listAtEnd (plain clubs) before) ≤ 1022 → a ≢ 0 → b ≢ 0
+    → SameTable (plainView clubs) (history (plain clubs) (before ++ (insert j a ∷ insert i b ∷ after)) store)
+    (history (plain clubs) (before ++ (insert i b ∷ insert (suc j) a ∷ after)) store′)
+either-shares before after store store′ right right′ i j a b in-order inside few =
+    corrections.either-shares (plainView clubs) 1024 clubs-lawful before after store store′ (plain-right clubs store right) (plain-right clubs store′ right′)
+    i j a b in-order inside (omega arith)
+
+-- An insert that is made, and then a delete at the same rank that is made, on any sheet, leave a sheet of the first list.
+pub back-sheet : (list : List ℕ) (store : PlainStore) → ClubSheet list store → (i e : ℕ) (tape tape′ output output′ : List ℕ) (n n′ words words′ : ℕ)
+    → outcome (plain clubs) (insert i e) tape store output .answer ≡ Changed n words
+    → outcome (plain clubs) (delete i) tape′ (outcome (plain clubs) (insert i e) tape store output .store) output′ .answer ≡ Changed n′ words′
+    → ClubSheet list (outcome (plain clubs) (delete i) tape′ (outcome (plain clubs) (insert i e) tape store output .store) output′ .store)
+unfolding editOf
+back-sheet list store w i e = corrections.back-sheet (plain clubs) clubs-lawful list store w (insertAt i e) (deleteAt i) i e 0 refl refl
+
+-- An insert with its rank in reach, room and an entry other than zero, and then a delete at the same rank, are accepted and lead back to the list.
+pub back-accepted : (i e : ℕ) (list : List ℕ) → e ≢ 0 → i ≤ length list → length list < 1024 → AllAccepted (plain clubs) (insert i e ∷ delete i ∷ []) list
+back-accepted i e list some-entry inside room = corrections.back-accepted (plainView clubs) 1024 i e list some-entry inside room clubs-lawful
+
+pub taken-back : (i e : ℕ) (list : List ℕ) → e ≢ 0 → i ≤ length list → length list < 1024 → finalList (plain clubs) (insert i e ∷ delete i ∷ []) list ≡ list
+taken-back = corrections.taken-back (plainView clubs) 1024
+
+-- A cleared history with this pair added anywhere in it keeps its shares.
+pub back-shares : (before after : List Call) (store store′ : PlainStore) → PlainLengths clubs store → PlainLengths clubs store′
+    → (i e : ℕ) → i ≤ length (listAtEnd (plain clubs) before) → length (listAtEnd (plain clubs) before) < 1024 → e ≢ 0
+    → SameTable (plainView clubs) (history (plain clubs) (before ++ (insert i e ∷ delete i ∷ after)) store) (history (plain clubs) (before ++ after) store′)
+back-shares before after store store′ right right′ =
+    corrections.back-shares (plainView clubs) 1024 clubs-lawful before after store store′ (plain-right clubs store right) (plain-right clubs store′ right′)
+
+-- For first ≤ mid < last < N, what a read of first to mid writes and then what a read of mid + 1 to last writes is what a read of first to last
+-- writes: the former lent the front of an output and the latter the rest of it leave, joined, the output that a read of the whole leaves, where
+-- there is room for it.
+pub readings-joined : (list : List ℕ) (store : PlainStore) → ClubSheet list store → (first mid last : ℕ) → first ≤ mid → mid < last → last < length list
+    → (tape tape₁ tape₂ output : List ℕ) → ranks first last ≤ length output
+    → plainReading clubs store first last tape output .output
+    ≡ plainReading clubs store first mid tape₁ (take (ranks first mid) output) .output
+    ++ plainReading clubs store (suc mid) last tape₂ (drop (ranks first mid) output) .output
+readings-joined = readings.readings-joined (plain clubs) clubs-lawful (λ q. q) (plain-itself (plainView clubs) 1024)
+
+-- The read of the whole is refused by cause 6 exactly when one of the two is.
+pub joined-refused : (list : List ℕ) (store : PlainStore) → ClubSheet list store → (first mid last : ℕ) → first ≤ mid → mid < last → last < length list
+    → (tape tape₁ tape₂ output : List ℕ)
+    → (plainReading clubs store first last tape output .answer ≡ Refused OutputShort)
+    ↔ ((plainReading clubs store first mid tape₁ (take (ranks first mid) output) .answer ≡ Refused OutputShort)
+    ⊎ (plainReading clubs store (suc mid) last tape₂ (drop (ranks first mid) output) .answer ≡ Refused OutputShort))
+joined-refused = readings.joined-refused (plain clubs) clubs-lawful (λ q. q) (plain-itself (plainView clubs) 1024)
+
+-- The same of timed sheets: two inserts by entry in either order, with keys that are not zero, not the same, and not in the list.
+pub timed-either-order : (a b : ℕ) (list : List ℕ) → length list ≤ 1022 → key a ≢ 0 → key b ≢ 0 → key a ≢ key b
+    → present (key a) list ≡ false → present (key b) list ≡ false
+    → finalList (timed clubs) (timed-calls.insert a ∷ timed-calls.insert b ∷ []) list ≡ finalList (timed clubs) (timed-calls.insert b ∷ timed-calls.insert a ∷ []) list
+timed-either-order a b list few = timed-corrections.either-order (timedView clubs) 1024 a b list (omega arith)
+
+pub timed-both-accepted : (a b : ℕ) (list : List ℕ) → length list ≤ 1022 → key a ≢ 0 → key b ≢ 0 → key a ≢ key b
+    → present (key a) list ≡ false → present (key b) list ≡ false
+    → AllAccepted (timed clubs) (timed-calls.insert a ∷ timed-calls.insert b ∷ []) list
+    × AllAccepted (timed clubs) (timed-calls.insert b ∷ timed-calls.insert a ∷ []) list
+timed-both-accepted a b list few some-a some-b other absent-a absent-b =
+    timed-corrections.both-accepted (timedView clubs) 1024 a b list (omega arith) some-a some-b other absent-a absent-b clubs-timed
+
+pub timed-either-shares : (before after : List TimedCall) (store store′ : TimedStore) → TimedLengths clubs store → TimedLengths clubs store′
+    → (a b : ℕ) → length (listAtEnd (timed clubs) before) ≤ 1022 → key a ≢ 0 → key b ≢ 0 → key a ≢ key b
+    → present (key a) (listAtEnd (timed clubs) before) ≡ false → present (key b) (listAtEnd (timed clubs) before) ≡ false
+    → SameTable (timedView clubs) (history (timed clubs) (before ++ (timed-calls.insert a ∷ timed-calls.insert b ∷ after)) store)
+    (history (timed clubs) (before ++ (timed-calls.insert b ∷ timed-calls.insert a ∷ after)) store′)
+timed-either-shares before after store store′ right right′ a b few =
+    timed-corrections.either-shares (timedView clubs) 1024 clubs-timed before after store store′ (timed-right clubs store right) (timed-right clubs store′ right′)
+    a b (omega arith)
+
+-- An insert by entry and then a delete at the rank of its key.
+pub timed-back-sheet : (list : List ℕ) (store : TimedStore) → TimedSheet list store → (e : ℕ) (tape tape′ output output′ : List ℕ) (n n′ words words′ : ℕ)
+    → outcome (timed clubs) (timed-calls.insert e) tape store output .answer ≡ Changed n words
+    → outcome (timed clubs) (timed-calls.delete (rankOf (key e) list)) tape′ (outcome (timed clubs) (timed-calls.insert e) tape store output .store) output′ .answer
+    ≡ Changed n′ words′
+    → TimedSheet list
+    (outcome (timed clubs) (timed-calls.delete (rankOf (key e) list)) tape′ (outcome (timed clubs) (timed-calls.insert e) tape store output .store) output′ .store)
+unfolding plainly editOf
+timed-back-sheet list store w e =
+    corrections.back-sheet (timed clubs) clubs-timed list store w (insertEntry e) (deleteRank (rankOf (key e) list)) (rankOf (key e) list) e 0 refl refl
+
+pub timed-back-accepted : (e : ℕ) (list : List ℕ) → length list < 1024 → key e ≢ 0 → present (key e) list ≡ false
+    → AllAccepted (timed clubs) (timed-calls.insert e ∷ timed-calls.delete (rankOf (key e) list) ∷ []) list
+timed-back-accepted e list room some-key absent = timed-corrections.back-accepted (timedView clubs) 1024 e list room some-key absent clubs-timed
+
+pub timed-taken-back : (e : ℕ) (list : List ℕ) → length list < 1024 → key e ≢ 0 → present (key e) list ≡ false
+    → finalList (timed clubs) (timed-calls.insert e ∷ timed-calls.delete (rankOf (key e) list) ∷ []) list ≡ list
+timed-taken-back = timed-corrections.taken-back (timedView clubs) 1024
+
+pub timed-back-shares : (before after : List TimedCall) (store store′ : TimedStore) → TimedLengths clubs store → TimedLengths clubs store′
+    → (e : ℕ) → length (listAtEnd (timed clubs) before) < 1024 → key e ≢ 0 → present (key e) (listAtEnd (timed clubs) before) ≡ false
+    → SameTable (timedView clubs)
+    (history (timed clubs) (before ++ (timed-calls.insert e ∷ timed-calls.delete (rankOf (key e) (listAtEnd (timed clubs) before)) ∷ after)) store)
+    (history (timed clubs) (before ++ after) store′)
+timed-back-shares before after store store′ right right′ =
+    timed-corrections.back-shares (timedView clubs) 1024 clubs-timed before after store store′ (timed-right clubs store right) (timed-right clubs store′ right′)
+
+-- Adjacent readings of a timed sheet.
+pub timed-readings-joined : (list : List ℕ) (store : TimedStore) → TimedSheet list store → (first mid last : ℕ) → first ≤ mid → mid < last → last < length list
+    → (tape tape₁ tape₂ output : List ℕ) → ranks first last ≤ length output
+    → timedReading clubs store first last tape output .output
+    ≡ timedReading clubs store first mid tape₁ (take (ranks first mid) output) .output
+    ++ timedReading clubs store (suc mid) last tape₂ (drop (ranks first mid) output) .output
+timed-readings-joined = readings.readings-joined (timed clubs) clubs-timed asPlain (timed-as-plain (timedView clubs) 1024)
+
+pub timed-joined-refused : (list : List ℕ) (store : TimedStore) → TimedSheet list store → (first mid last : ℕ) → first ≤ mid → mid < last → last < length list
+    → (tape tape₁ tape₂ output : List ℕ)
+    → (timedReading clubs store first last tape output .answer ≡ Refused OutputShort)
+    ↔ ((timedReading clubs store first mid tape₁ (take (ranks first mid) output) .answer ≡ Refused OutputShort)
+    ⊎ (timedReading clubs store (suc mid) last tape₂ (drop (ranks first mid) output) .answer ≡ Refused OutputShort))
+timed-joined-refused = readings.joined-refused (timed clubs) clubs-timed asPlain (timed-as-plain (timedView clubs) 1024)
 
 -- ---- the program
 

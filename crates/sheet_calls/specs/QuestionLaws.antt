@@ -1,5 +1,5 @@
 -- The questions about the clubs' sheets, by what their stores were found to hold.
-use mathlib.Core.Path.{_≡_, refl, sym, _∙_, ap}
+use mathlib.Core.Path.{_≡_, sym, _∙_, ap}
 use mathlib.Core.List.{List, []}
 use Prim.Native.Nat.{ℕ}
 use lib.ListN.{length}
@@ -11,6 +11,7 @@ use Rattle.call_outcomes.specs.Kind.{ask}
 use Rattle.call_outcomes.specs.Causes.{accept, storeDecision}
 use Rattle.call_outcomes.specs.Outcome.{outcome}
 use Rattle.call_outcomes.specs.PlainCalls.{Question, writtenFor}
+use Rattle.call_outcomes.specs.PlainCallLaws.{plain-itself}
 use Rattle.call_outcomes.specs.Untallied.{untalliedView}
 use Rattle.call_outcomes.specs.SliceLaws.{slice-holds}
 use Rattle.call_outcomes.specs.Plain.{tallySlice, plainView, plain, PlainStore, plainStoreOf, plainOutcomeOf}
@@ -19,7 +20,7 @@ use Rattle.call_outcomes.specs.ClubsLaws.{clubs-ready}
 use Rattle.call_open.specs.declared.Opened.{Opened}
 use Rattle.call_open.specs.Opening.{plainNumbers, Opening}
 use Rattle.call_open.specs.AdmittedLaws.{opened-store, plain-decoded, plain-sheet, plain-tallies}
-use Rattle.call_questions.specs.Asked.{asked, Answers, Readable, Tallied, RoomFor, AsPlain}
+use Rattle.call_questions.specs.Asked.{asked, Answers, Readable, Tallied, RoomFor}
 use Rattle.call_questions.specs.AskedLaws as questions
 use Rattle.call_questions.specs.StartLaws.{decoded-list}
 
@@ -52,14 +53,11 @@ module _ {slots counts tallies work : List ℕ} {found : Opened} (w : Opening (p
       decoded-list clubs (store .sheet) c (plain-decoded clubs (store .sheet) c (t .decided))
 
   module _ (q : Question) where
-    itself : AsPlain (plain clubs) q q
-    itself = record { causes = λ list. refl; reply = λ list. refl; written = λ list. refl }
-
     pub asked-outcome : (tape output : List ℕ) (answer : Answer) (output′ : List ℕ)
         → record { answer = answer; output = output′ } ≡ asked q found (nonzero slots) output
         → plainOutcomeOf answer slots counts tallies output′ ≡ outcome (plain clubs) (ask q) tape store output
-    asked-outcome = questions.asked-outcome (plain clubs) store (w .found) lists itself
+    asked-outcome = questions.asked-outcome (plain clubs) store (w .found) lists (plain-itself (plainView clubs) 1024 q)
 
     pub answered-outcome : (answer : Answer) → Answers q found answer → writtenFor q (nonzero slots) ≡ [] → (tape : List ℕ)
         → plainOutcomeOf answer slots counts tallies [] ≡ outcome (plain clubs) (ask q) tape store []
-    answered-outcome answer a nothing = questions.answered-outcome (plain clubs) store (w .found) lists itself nothing answer a
+    answered-outcome answer a nothing = questions.answered-outcome (plain clubs) store (w .found) lists (plain-itself (plainView clubs) 1024 q) nothing answer a

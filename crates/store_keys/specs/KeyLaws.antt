@@ -2,12 +2,12 @@
 use mathlib.Core.Path.{_≡_, refl, sym, ap, _∙_}
 use mathlib.Core.Bool.{Bool, true, false, _||_, or-assoc, or-false, or-true}
 use mathlib.Core.List.{List, [], _∷_, _++_}
-use mathlib.Core.Logic.{⊎-elim}
+use mathlib.Core.Logic.{_≢_, ⊎-elim}
 use Prim.Native.Nat.{ℕ, zero, suc, _+_, _*_, _^_, _≤_, _<_}
 use native.Mathlib.Nat.{mul-add-mod-self-right, add-zero, eq-or-lt-of-le, le-of-suc-le-suc, mod-eq-of-lt, mod-le, not-suc-le-zero}
 use native.Mathlib.Omega.{arith}
 use lib.Dec.{eqb, ltb}
-use lib.ListN.{length, getD, take, drop}
+use lib.ListN.{length, getD, take, drop, take-append-drop}
 use borrow.Author.Tests.{eq-eqb, lt-ltb, ltb-true, ne-eqb, eqb-false}
 use Rattle.base.specs.CaseLaws.{by-lt, ifLt-yes, ifLt-no, lt-or-ge}
 use Rattle.base.specs.BoolLaws.{and-both}
@@ -136,7 +136,35 @@ module _ (k : ℕ) where
     pub present-before : KeysAbove k ys → present k (xs ++ ys) ≡ present k xs
     present-before w = present-append xs ys ∙ rw (present-above ys w) (or-false (present k xs))
 
+-- A lower key has no higher rank.
+pub rank-rises : (k k′ : ℕ) (list : List ℕ) → k ≤ k′ → rankOf k list ≤ rankOf k′ list
+unfolding rankOf
+rank-rises k k′ [] h = omega arith
+rank-rises k k′ (e ∷ list) h =
+    by-lt (λ (r : ℕ). r ≤ rankOf k′ (e ∷ list)) (key e) k _ _
+    (λ less. omega (arith, rank-yes k′ e list (omega arith), rank-rises k k′ list h))
+    (λ least. by-lt (λ (r : ℕ). rankOf k list ≤ r) (key e) k′ _ _ (λ less. omega (arith, rank-rises k k′ list h)) (λ more. rank-rises k k′ list h))
+
 -- ---- one entry more, and one less
+
+-- With an entry more, wherever it stands: the rank of a key above its key is one higher, that of any other key is the same, and a key other
+-- than its key is absent where it was.
+module _ (k e i : ℕ) (list : List ℕ) where
+  parts : rankOf k list ≡ rankOf k (take i list) + rankOf k (drop i list)
+  parts = ap (rankOf k) (sym (take-append-drop i list)) ∙ rank-append k (take i list) (drop i list)
+
+  pub rank-inserted-lower : key e < k → rankOf k (take i list ++ (e ∷ drop i list)) ≡ suc (rankOf k list)
+  rank-inserted-lower h = omega (arith, rank-append k (take i list) (e ∷ drop i list), rank-yes k e (drop i list) h, parts)
+
+  pub rank-inserted-other : k ≤ key e → rankOf k (take i list ++ (e ∷ drop i list)) ≡ rankOf k list
+  rank-inserted-other h = omega (arith, rank-append k (take i list) (e ∷ drop i list), rank-no k e (drop i list) h, parts)
+
+  pub present-inserted-other : key e ≢ k → present k list ≡ false → present k (take i list ++ (e ∷ drop i list)) ≡ false
+  unfolding present
+  present-inserted-other other absent =
+      present-append k (take i list) (e ∷ drop i list)
+      ∙ rw (ne-eqb (key e) k other)
+      (sym (present-append k (take i list) (drop i list)) ∙ ap (present k) (take-append-drop i list) ∙ absent)
 
 neither : (a b : Bool) → (a || b) ≡ false → (a ≡ false) × (b ≡ false)
 neither true b h = let z : _≡_ {A = ℕ} 0 1 = cc in absurd (omega arith)

@@ -1,5 +1,5 @@
 -- The questions about the clubs' timed sheets that are those of a plain sheet, by what their stores were found to hold.
-use mathlib.Core.Path.{_≡_, refl, sym, _∙_, ap}
+use mathlib.Core.Path.{_≡_, sym, _∙_, ap}
 use mathlib.Core.List.{List, []}
 use Prim.Native.Nat.{ℕ}
 use lib.ListN.{length}
@@ -16,15 +16,11 @@ use Rattle.call_open.specs.declared.Opened.{Opened}
 use Rattle.call_open.specs.declared.Opened.the-variants as opened
 use Rattle.call_open.specs.Opening.{plainNumbers, Opening, OpenedStore}
 use Rattle.call_open.specs.AdmittedLaws.{opened-store, plain-sheet, plain-tallies}
-use Rattle.call_questions.specs.Asked.{asked, Answers, Readable, Tallied, RoomFor, AsPlain}
+use Rattle.call_questions.specs.Asked.{asked, Answers, Readable, Tallied, RoomFor}
 use Rattle.call_questions.specs.AskedLaws as questions
-use Rattle.call_timed.specs.Timed.{timedView, TimedStore, asPlain, timedQuestionCause, timedReply, timedWritten, timed, timedStoreOf, timedNumbers, timedOutcomeOf}
+use Rattle.call_timed.specs.Timed.{timedView, TimedStore, asPlain, timed, timedStoreOf, timedNumbers, timedOutcomeOf}
+use Rattle.call_timed.specs.TimedLaws.{timed-as-plain}
 use Rattle.timed_calls.specs.SheetLaws.{timed-list, plain-store}
-
--- The question of a plain sheet, asked about a timed one.
-plainly : (q : Question) → AsPlain (timed clubs) (asPlain q) q
-unfolding timedQuestionCause timedReply timedWritten
-plainly q = record { causes = λ list. refl; reply = λ list. refl; written = λ list. refl }
 
 module _ {slots counts tallies balance work : List ℕ} {found : Opened} (w : Opening (timedView clubs) timedNumbers (timedStoreOf slots counts tallies balance) found work) where
   abbrev store : TimedStore
@@ -48,9 +44,9 @@ module _ {slots counts tallies balance work : List ℕ} {found : Opened} (w : Op
     pub asked-outcome : (tape output : List ℕ) (answer : Answer) (output′ : List ℕ)
         → record { answer = answer; output = output′ } ≡ asked q found (nonzero slots) output
         → timedOutcomeOf answer slots counts tallies balance output′ ≡ outcome (timed clubs) (ask (asPlain q)) tape store output
-    asked-outcome = questions.asked-outcome (timed clubs) store (w .found) (timed-list slots counts tallies balance) (plainly q)
+    asked-outcome = questions.asked-outcome (timed clubs) store (w .found) (timed-list slots counts tallies balance) (timed-as-plain (timedView clubs) 1024 q)
 
     pub answered-outcome : (answer : Answer) → Answers q found answer → writtenFor q (nonzero slots) ≡ [] → (tape : List ℕ)
         → timedOutcomeOf answer slots counts tallies balance [] ≡ outcome (timed clubs) (ask (asPlain q)) tape store []
     answered-outcome answer a nothing =
-        questions.answered-outcome (timed clubs) store (w .found) (timed-list slots counts tallies balance) (plainly q) nothing answer a
+        questions.answered-outcome (timed clubs) store (w .found) (timed-list slots counts tallies balance) (timed-as-plain (timedView clubs) 1024 q) nothing answer a

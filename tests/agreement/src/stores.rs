@@ -27,6 +27,12 @@ pub fn rising(n: usize, bits: Bits, random: &mut SplitMix64) -> Vec<u64> {
 
 /// The sheet of a list, a size and random balance entries.
 pub fn sheet_of_size(list: &[u64], m: usize, random: &mut SplitMix64) -> Store {
+    sheet_by(list, m, |_, c| random.below(c))
+}
+
+/// The same with given balance entries: `chosen` is given a range and the number of its
+/// candidates, and tells which candidate, from 0.
+pub fn sheet_by(list: &[u64], m: usize, mut chosen: impl FnMut(Node, usize) -> usize) -> Store {
     let shape = Shape::of(m);
     let (mut slots, mut counts) = ([0; SLOTS], [0; COUNTS]);
     counts[SIZE] = m as u16;
@@ -34,7 +40,7 @@ pub fn sheet_of_size(list: &[u64], m: usize, random: &mut SplitMix64) -> Store {
     for node in (0..shape.height).flat_map(Node::all_at) {
         let n = shape.count(&counts, node);
         let candidates = shape.candidate_positions(node.depth, n);
-        let balance = candidates.start + random.below(candidates.len());
+        let balance = candidates.start + chosen(node, candidates.len());
         shape.set_count(&mut counts, node.left(), balance);
         shape.set_count(&mut counts, node.right(), n - balance);
     }

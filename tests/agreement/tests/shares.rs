@@ -1,43 +1,15 @@
 //! Exact shares of the proved library's own stores, tallies included: every course
 //! of a short history is tried, by words that decide its faces.
 
-use agreement::shares::by_course;
-use agreement::{Call, Lent, Store};
+use agreement::shares::{by_calls, by_courses};
+use agreement::Store;
 use reference::coins::{Source, Undecided};
 use reference::places::{RETIRED, TIED};
-use reference::shares::{self, every_course, shares_by_courses, table_of, Course, SheetKey, Table};
-
-/// The call with this tape.
-fn with_tape(call: shares::Call, tape: Vec<u32>) -> Call {
-    match call {
-        shares::Call::Clear => Call::Clear,
-        shares::Call::Insert { rank, entry } => Call::Insert { rank, entry, tape },
-        shares::Call::Delete { rank } => Call::Delete { rank, tape },
-        shares::Call::Read { first, last, output } => Call::Read { first, last, output: vec![0; output] },
-        shares::Call::Place { rank } => Call::Place { rank },
-        shares::Call::Check => Call::Check,
-    }
-}
-
-fn key(store: &Store) -> SheetKey {
-    let mut copy = shares::Store::cleared();
-    copy.slots.copy_from_slice(&store.slots);
-    copy.counts.copy_from_slice(&store.counts);
-    copy.tallies.copy_from_slice(&store.tallies);
-    copy.sheet()
-}
+use reference::shares::{self, every_course, shares_by_courses, table_of, Course, Table};
 
 /// The table of the stores that the proved calls leave.
 fn proved_table(history: &[shares::Call]) -> Table {
-    table_of(every_course(|course| {
-        let mut guide = shares::Store::cleared();
-        let mut store = Store::unused();
-        store.by_proved(&Call::Clear);
-        for &call in history {
-            by_course(&mut store, course, |source| guide.call(call, source), |tape| with_tape(call, tape));
-        }
-        key(&store)
-    }))
+    by_courses::<Store>(history)
 }
 
 const fn insert(rank: usize, entry: u64) -> shares::Call {
@@ -92,7 +64,9 @@ fn other_lists_have_other_tables() {
 #[test]
 fn tables_are_those_of_the_rules() {
     for history in with_the_same_list() {
-        assert!(proved_table(&history) == shares_by_courses(&history));
+        let table = proved_table(&history);
+        assert!(table == shares_by_courses(&history));
+        assert!(table == by_calls::<Store>(&history));
     }
 }
 

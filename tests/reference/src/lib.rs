@@ -17,6 +17,7 @@
 //! - [`frames`]: the lines of the program, with causes 8 and 9
 //! - [`shares`]: histories, their courses and exact tables of shares
 //! - [`timed_shares`]: the same for timed histories
+//! - [`corrections`], [`timed_corrections`]: what the tests of F-10 try and compare
 //! - [`random`]: a small seeded generator for tests and benchmarks
 
 #![forbid(unsafe_code)]
@@ -24,6 +25,7 @@
 pub mod calls;
 pub mod coins;
 pub mod conversions;
+pub mod corrections;
 pub mod frames;
 pub mod layout;
 pub mod order;
@@ -33,4 +35,5 @@ pub mod rules;
 pub mod shares;
 pub mod sizes;
 pub mod timed;
+pub mod timed_corrections;
 pub mod timed_shares;

@@ -256,6 +256,12 @@ impl SheetKey {
         store.tallies[..self.tallies.len()].copy_from_slice(&self.tallies);
         store
     }
+
+    /// The entries in the order of their slots: the list of a sheet.
+    pub fn entries(&self) -> Vec<u64> {
+        let entries = self.slots.iter().filter(|&&slot| slot != 0);
+        entries.copied().collect()
+    }
 }
 
 pub(crate) fn without_last_zeros<T: Copy + Default + PartialEq>(values: &[T]) -> Vec<T> {

@@ -105,6 +105,11 @@ impl TimedKey {
         store.balance[..self.balance.len()].copy_from_slice(&self.balance);
         store
     }
+
+    /// The list of a timed sheet.
+    pub fn entries(&self) -> Vec<u64> {
+        self.plain.entries()
+    }
 }
 
 /// A table of shares of timed sheets.
