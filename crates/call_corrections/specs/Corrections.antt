@@ -1,5 +1,5 @@
--- Corrections of plain sheets (document 02, F-10), in any store with room for `entries`: two inserts in either order, and an insert that is
--- taken back.
+-- Corrections (document 02, F-10): an insert that is taken back, on any sheet of any kind; and of plain sheets, in any store with room for
+-- `entries`, two inserts in either order and an insert that is taken back.
 use mathlib.Core.Path.{_≡_, sym, _∙_}
 use mathlib.Core.Bool.{true}
 use mathlib.Core.Logic.{_≢_}
@@ -10,10 +10,9 @@ use native.Mathlib.Omega.{arith}
 use borrow.Author.Tests.{ne-eqb, le-ltb, lt-leb}
 use lib.ListN.{length}
 use Rattle.tree_rules.specs.declared.Change.the-variants.{Insert, Delete}
-use Rattle.tree_rules.specs.Compare.{countAfter}
 use Rattle.tree_rules.specs.Rules.{InReach}
 use Rattle.tree_rules.specs.ChangeList.{changeList}
-use Rattle.tree_rules.specs.ChangeListLaws.{length-changed, inserts-either-order, insert-delete}
+use Rattle.tree_rules.specs.ChangeListLaws.{length-inserted, inserts-either-order, insert-delete}
 use Rattle.call_outcomes.specs.declared.Answer.the-variants.{Changed}
 use Rattle.call_outcomes.specs.Kind.{View, SheetOf, applied, change, Kind, Lawful, StoreFor}
 use Rattle.call_outcomes.specs.Causes.{firstOf, argumentCause}
@@ -23,11 +22,6 @@ use Rattle.call_history.specs.History.{history, finalList, listAtEnd, SameTable
 use Rattle.call_history.specs.SingleCalls.{made-free, changed-by}
 use Rattle.call_corrections.specs.Accepted.{AllAccepted}
 use Rattle.call_corrections.specs.Exchange.{two-lead, two-accepted, parts-exchanged}
-
--- The list with an entry more is one longer.
-pub length-inserted : (i e : ℕ) (list : List ℕ) → i ≤ length list → length (changeList (Insert i) e list) ≡ suc (length list)
-unfolding InReach countAfter
-length-inserted i e list inside = length-changed (Insert i) e list inside
 
 -- On any sheet of any kind: a change that is made and puts an entry in at a rank, and then one that is made and takes out the entry at this rank,
 -- leave a sheet of the first list.

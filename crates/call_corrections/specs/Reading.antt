@@ -1,11 +1,10 @@
--- What a read of ranks comes to, on every kind of sheet that answers the questions about plain sheets. Definitions only.
+-- What a read of ranks comes to, of plain sheets and of timed ones. Definitions only.
 use mathlib.Core.List.{List}
 use Prim.Native.Nat.{ℕ, _+_, _-_}
 use lib.ListN.{length}
 use Rattle.store_layout.specs.declared.Capacity.{Capacity}
-use Rattle.call_outcomes.specs.Kind.{ask, Kind, StoreFor}
 use Rattle.call_outcomes.specs.Outcome.{Outcome, outcome}
-use Rattle.call_outcomes.specs.PlainCalls.{Question, readRanks, read}
+use Rattle.call_outcomes.specs.PlainCalls.{read}
 use Rattle.call_outcomes.specs.Plain.{PlainStore, plain}
 use Rattle.call_timed.specs.Timed as timed-calls
 use Rattle.call_timed.specs.Timed.{TimedStore, timed}
@@ -20,7 +19,3 @@ plainReading cap store first last tape output = outcome (plain cap) (read first 
 
 abbrev pub timedReading : (cap : Capacity) (store : TimedStore) (first last : ℕ) (tape output : List ℕ) → Outcome TimedStore
 timedReading cap store first last tape output = outcome (timed cap) (timed-calls.read first last (length output)) tape store output
-
--- A read of any kind of sheet that asks the questions about plain sheets so.
-abbrev pub reading : (kind : Kind) → (Question → kind .calls .Question) → (store : StoreFor kind) (first last : ℕ) (tape output : List ℕ) → Outcome (StoreFor kind)
-reading kind asks store first last tape output = outcome kind (ask (asks (readRanks first last (length output)))) tape store output

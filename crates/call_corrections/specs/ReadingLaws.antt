@@ -17,11 +17,11 @@ use Rattle.call_outcomes.specs.declared.Cause.the-variants.{OutputShort}
 use Rattle.call_outcomes.specs.declared.Answer.the-variants.{Entries, Refused}
 use Rattle.call_outcomes.specs.Kind.{SheetOf, ask, Kind, Lawful, StoreFor}
 use Rattle.call_outcomes.specs.Causes.{firstOf, argumentCause}
-use Rattle.call_outcomes.specs.Outcome.{Outcome}
+use Rattle.call_outcomes.specs.Outcome.{Outcome, outcome}
 use Rattle.call_outcomes.specs.PlainCalls.{Question, readRanks, questionCause, replyTo, writtenFor, AsPlain}
 use Rattle.call_history.specs.Refusals.{refused-by}
 use Rattle.call_history.specs.SingleCalls.{question-by}
-use Rattle.call_corrections.specs.Reading.{ranks, reading}
+use Rattle.call_corrections.specs.Reading.{ranks}
 
 -- ---- what a read writes
 
@@ -42,9 +42,11 @@ written-joined list first mid last room room₁ room₂ before behind =
 
 -- ---- a read of a sheet whose ranks stand
 
-module _ (kind : Kind) (lawful : Lawful kind) (asks : Question → kind .calls .Question) (plainly : (q : Question) → AsPlain kind (asks q) q) (list : List ℕ) (store : StoreFor kind) (w : SheetOf (kind .view) list store) where
+module _ (kind : Kind) (lawful : Lawful kind) (asks : Question → kind .calls .Question) (plainly : (q : Question) → AsPlain kind (asks q) q)
+    (list : List ℕ) (store : StoreFor kind) (w : SheetOf (kind .view) list store) where
+  -- A read of the ranks first to last that is lent this output.
   abbrev read : (first last : ℕ) → (tape output : List ℕ) → Outcome (StoreFor kind)
-  read = reading kind asks store
+  read first last tape output = outcome kind (ask (asks (readRanks first last (length output)))) tape store output
 
   module _ (first last : ℕ) (in-order : first ≤ last) (inside : last < length list) (tape output : List ℕ) where
     cause-is : questionCause (readRanks first last (length output)) (length list) ≡ firstOf (ltb (length output) (ranks first last)) OutputShort none

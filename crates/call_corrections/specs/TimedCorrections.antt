@@ -12,7 +12,7 @@ use lib.ListN.{length}
 use Rattle.base.specs.CaseLaws.{lt-or-ge}
 use Rattle.tree_rules.specs.declared.Change.the-variants.{Insert}
 use Rattle.tree_rules.specs.ChangeList.{changeList}
-use Rattle.tree_rules.specs.ChangeListLaws.{inserts-either-order, insert-delete}
+use Rattle.tree_rules.specs.ChangeListLaws.{length-inserted, inserts-either-order, insert-delete}
 use Rattle.store_keys.specs.Key.{key, rankOf, present}
 use Rattle.store_keys.specs.KeyLaws.{rank-most, rank-rises, rank-inserted-lower, rank-inserted-other, present-inserted-other}
 use Rattle.call_outcomes.specs.Kind.{View, applied, Kind, Lawful}
@@ -23,7 +23,6 @@ use Rattle.call_timed.specs.Timed.{plainly, timedChangeCause, timedCalls, Timed
 use Rattle.call_history.specs.History.{history, finalList, listAtEnd, SameTable}
 use Rattle.call_corrections.specs.Accepted.{AllAccepted}
 use Rattle.call_corrections.specs.Exchange.{two-lead, two-accepted, parts-exchanged}
-use Rattle.call_corrections.specs.Corrections.{length-inserted}
 
 -- The list with the entry in at the rank of its key.
 abbrev with : ℕ → List ℕ → List ℕ

@@ -17,6 +17,10 @@ unfolding InReach countAfter changeList
 length-changed (Insert i) e list h = simp (length-append, length-take, length-drop) (omega (arith, h))
 length-changed (Delete i) e list h = simp (length-append, length-take, length-drop) (omega (arith, h))
 
+pub length-inserted : (i e : ℕ) (list : List ℕ) → i ≤ length list → length (changeList (Insert i) e list) ≡ suc (length list)
+unfolding InReach countAfter
+length-inserted i e list inside = length-changed (Insert i) e list inside
+
 -- An entry put in at j, and then another one before it at i: the other one at i, and then the first one at j + 1.
 pub inserts-either-order : (i j a b : ℕ) (list : List ℕ) → i ≤ j → j ≤ length list
     → changeList (Insert i) b (changeList (Insert j) a list) ≡ changeList (Insert (suc j)) a (changeList (Insert i) b list)
