@@ -1,4 +1,4 @@
-/* The packed finishing sheet: six calls on a store that the caller lends, and the conversion of its counts between two orders.
+/* The packed finishing sheet: seven calls on a store that the caller lends, and the conversion of its counts between two orders.
  *
  * On x86-64 Linux, `rt staticlib sheet_c` proves the crates and writes target/staticlib/libsheet_c.a; a program is then built by
  *
@@ -35,13 +35,14 @@
  *
  *     clear           0, 0
  *     insert, delete  the new N, the words read from the tape
- *     read            the entries put into `output`, 0
+ *     read, board     the entries put into `output`, 0
  *     place           the place p, the sum of the places p to p + t - 1, the number t of boats of the tied group; 0, 0, 1 for a retired boat
  *     check           N, 0
  *     conversions     M, 0
  *
- * The first cause, in the order of the numbers, decides. A refused call puts zeros into these two or three elements and changes nothing else.
- * Where `answer` has fewer than that, SHEET_ANSWER_SHORT is returned before any cause is looked for, and nothing changes at all.
+ * The first cause decides, in the order of the numbers but for SHEET_BOARD_RANKS, which comes after SHEET_NOT_A_SHEET and before SHEET_RANK. A
+ * refused call puts zeros into these two or three elements and changes nothing else. Where `answer` has fewer than that, SHEET_ANSWER_SHORT is
+ * returned before any cause is looked for, and nothing changes at all.
  *
  * Coins. The tape of an insert or a delete is 32-bit words, read from its first element. They are random (uniform and independent), secret,
  * and used once: after an accepted call drop the answer[1] words that it read, and lend those behind them to the next call. SHEET_WORDS words
@@ -62,6 +63,7 @@
 #define SHEET_COUNTS 256
 #define SHEET_TALLIES 256
 #define SHEET_ENTRIES 1024
+#define SHEET_BOARD 64 /* the most ranks of a board */
 #define SHEET_WORDS 72
 
 /* The bit of an entry that says that the boat tied with the boat before her, and that of a retired boat. */
@@ -73,10 +75,11 @@
 #define SHEET_LENGTHS 1        /* the store has other lengths than SHEET_SLOTS, SHEET_COUNTS and SHEET_TALLIES */
 #define SHEET_NOT_A_SHEET 2    /* the contents of the store are no sheet, if only in a tally */
 #define SHEET_ENTRY_ZERO 3     /* the entry is 0; SHEET_TIED or SHEET_RETIRED alone is an entry */
-#define SHEET_RANK 4           /* the rank is too high, or first is above last */
+#define SHEET_RANK 4           /* a rank is too high, or first is above last */
 #define SHEET_FULL 5           /* insert with SHEET_ENTRIES entries */
-#define SHEET_OUTPUT_SHORT 6   /* the output has fewer than last - first + 1 elements */
+#define SHEET_OUTPUT_SHORT 6   /* the output has fewer than last - first + 1 elements, or fewer than there are ranks on the board */
 #define SHEET_TAPE_ENDED 7     /* the tape ends before a draw is decided */
+#define SHEET_BOARD_RANKS 16   /* the ranks of a board fall, or are more than SHEET_BOARD */
 #define SHEET_ANSWER_SHORT 255 /* `answer` has fewer than three elements (place) or two (every other call) */
 
 #ifdef __cplusplus
@@ -108,6 +111,13 @@ size_t sheet_place(const uint64_t *slots, size_t slots_len, const uint16_t *coun
 /* Whether the store is a sheet, and N. */
 size_t sheet_check(const uint64_t *slots, size_t slots_len, const uint16_t *counts, size_t counts_len, const uint16_t *tallies,
                    size_t tallies_len, uint64_t *answer, size_t answer_len);
+
+/* Copies the entries at these ranks to the front of the output, in one walk along the sheet. There are at most SHEET_BOARD ranks, each from 0 to
+ * N - 1 and none below the one before it; a rank may be repeated. output[k] is what sheet_read of the one rank ranks[k] would copy. The
+ * rest of the output stays as it was. No ranks at all are accepted on any sheet. */
+size_t sheet_board(const uint64_t *slots, size_t slots_len, const uint16_t *counts, size_t counts_len, const uint16_t *tallies,
+                   size_t tallies_len, const uint64_t *ranks, size_t ranks_len, uint64_t *output, size_t output_len, uint64_t *answer,
+                   size_t answer_len);
 
 /* Counts that stand in the order of the range numbers, as before F-5, put into the tree order, in place. SHEET_LENGTHS where there are not
  * SHEET_COUNTS counts, SHEET_NOT_A_SHEET where M is above 2 SHEET_ENTRIES - 1; everything else is accepted, whatever the other counts are.

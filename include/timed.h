@@ -1,4 +1,4 @@
-/* Timed sheets: seven calls on a store that the caller lends, whose entries rise, so that a boat is entered and found by her finish.
+/* Timed sheets: eight calls on a store that the caller lends, whose entries rise, so that a boat is entered and found by her finish.
  *
  * On x86-64 Linux, `rt staticlib timed_c` proves the crates and writes target/staticlib/libtimed_c.a; a program is then built by
  *
@@ -21,15 +21,15 @@
  *     clear           0, 0
  *     insert, delete  the new N, the words read from the tape
  *     find            1 and the rank of the entry with this key; or 0 and the rank at which it would stand
- *     read            the entries put into `output`, 0
+ *     read, board     the entries put into `output`, 0
  *     place           the place p, the sum of the places p to p + t - 1, the number t of boats of the tied group; 0, 0, 1 for a retired boat
  *     check           N, 0
  *
- * The first cause decides, in the order SHEET_LENGTHS, SHEET_NOT_A_SHEET, TIMED_NOT_TIMED, SHEET_ENTRY_ZERO, TIMED_PRESENT, SHEET_RANK,
- * SHEET_FULL, SHEET_OUTPUT_SHORT, SHEET_TAPE_ENDED. SHEET_LENGTHS is that any of the four slices has another length; SHEET_NOT_A_SHEET looks
- * at slots, counts and tallies alone. SHEET_ENTRY_ZERO is that the entry given has the key 0, so that it has no bit but SHEET_TIED and
- * SHEET_RETIRED, or none. A refused call puts zeros into these two or three elements and changes nothing else. Where `answer` has fewer than
- * that, SHEET_ANSWER_SHORT is returned before any cause is looked for, and nothing changes at all.
+ * The first cause decides, in the order SHEET_LENGTHS, SHEET_NOT_A_SHEET, TIMED_NOT_TIMED, SHEET_BOARD_RANKS, SHEET_ENTRY_ZERO, TIMED_PRESENT,
+ * SHEET_RANK, SHEET_FULL, SHEET_OUTPUT_SHORT, SHEET_TAPE_ENDED. SHEET_LENGTHS is that any of the four slices has another length;
+ * SHEET_NOT_A_SHEET looks at slots, counts and tallies alone. SHEET_ENTRY_ZERO is that the entry given has the key 0, so that it has no bit but
+ * SHEET_TIED and SHEET_RETIRED, or none. A refused call puts zeros into these two or three elements and changes nothing else. Where `answer` has
+ * fewer than that, SHEET_ANSWER_SHORT is returned before any cause is looked for, and nothing changes at all.
  */
 #ifndef TIMED_H
 #define TIMED_H
@@ -78,6 +78,13 @@ size_t timed_place(const uint64_t *slots, size_t slots_len, const uint16_t *coun
 /* Whether the store is a timed sheet, and N. */
 size_t timed_check(const uint64_t *slots, size_t slots_len, const uint16_t *counts, size_t counts_len, const uint16_t *tallies,
                    size_t tallies_len, const uint64_t *balance, size_t balance_len, uint64_t *answer, size_t answer_len);
+
+/* Copies the entries at these ranks, with their bits, to the front of the output, in one walk along the sheet. There are at most SHEET_BOARD
+ * ranks, each from 0 to N - 1 and none below the one before it; a rank may be repeated. output[k] is what timed_read of the one rank
+ * ranks[k] would copy. The rest of the output stays as it was. No ranks at all are accepted on any timed sheet. */
+size_t timed_board(const uint64_t *slots, size_t slots_len, const uint16_t *counts, size_t counts_len, const uint16_t *tallies,
+                   size_t tallies_len, const uint64_t *balance, size_t balance_len, const uint64_t *ranks, size_t ranks_len, uint64_t *output,
+                   size_t output_len, uint64_t *answer, size_t answer_len);
 
 #ifdef __cplusplus
 }

@@ -1,6 +1,7 @@
 //! One table: what each call costs in the proved library, in C and in Rust,
 //! beside a bare scan of the store's bytes; then the calls on timed sheets, in
-//! the proved library and in C.
+//! the proved library and in C; then a table of boards beside single reads
+//! ([`boards`]).
 //!
 //! Every row is measured many times, the sides in turn and on equal stores with
 //! equal arguments and tapes. A row shows the median of each side. The ratio is
@@ -18,6 +19,7 @@
 //! ([`compare`]), before each length with each other, and after each turn the
 //! stores of all sides are equal.
 
+mod boards;
 mod compare;
 mod plain;
 mod sides;
@@ -386,5 +388,7 @@ fn main() -> ExitCode {
     );
     println!("{} 1.25 times the fastest side", said(within.side));
     println!("{} 1.25 times its goal in scans", said(within.goal));
+    println!();
+    boards::table(times, &mut random);
     ExitCode::from(u8::from(!(within.side && within.goal)))
 }

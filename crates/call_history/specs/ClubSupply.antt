@@ -5,11 +5,11 @@ use mathlib.Core.List.{List}
 use mathlib.Core.Option.{some}
 use Prim.Native.Nat.{ℕ}
 use native.Mathlib.Omega.{arith}
-use Rattle.call_outcomes.specs.declared.Cause.the-variants.{EntryZero, Rank, Full, OutputShort, TapeEnded}
+use Rattle.call_outcomes.specs.declared.Cause.the-variants.{BoardRanks, EntryZero, Rank, Full, OutputShort, TapeEnded}
 use Rattle.call_outcomes.specs.declared.Answer.the-variants.{Refused}
 use Rattle.call_outcomes.specs.Kind.{clear, change, ask}
 use Rattle.call_outcomes.specs.Causes.{argumentCause}
-use Rattle.call_outcomes.specs.PlainCalls.{insertAt, deleteAt, changeCause, Question, readRanks, placeOf, countOf, questionCause, replyTo, Call}
+use Rattle.call_outcomes.specs.PlainCalls.{insertAt, deleteAt, changeCause, Question, readRanks, placeOf, countOf, boardOf, questionCause, replyTo, Call}
 use Rattle.call_outcomes.specs.Plain.{plain}
 use Rattle.call_outcomes.specs.Clubs.{clubs}
 use Rattle.call_history.specs.Supply.{Suppliable, first-other, none-ended}
@@ -23,12 +23,15 @@ cause-not-ended (change (deleteAt i)) list = first-other _ Rank _ (omega arith) 
 cause-not-ended (ask (readRanks first last room)) list = first-other _ Rank _ (omega arith) (first-other _ OutputShort _ (omega arith) none-ended)
 cause-not-ended (ask (placeOf i)) list = first-other _ Rank _ (omega arith) none-ended
 cause-not-ended (ask countOf) list = none-ended
+cause-not-ended (ask (boardOf ranks room)) list =
+    first-other _ BoardRanks _ (omega arith) (first-other _ Rank _ (omega arith) (first-other _ OutputShort _ (omega arith) none-ended))
 
 reply-not-ended : (q : Question) (list : List ℕ) → replyTo q list ≢ Refused TapeEnded
 unfolding replyTo
 reply-not-ended (readRanks first last room) list e = let z : _≡_ {A = ℕ} 0 1 = cc in omega arith
 reply-not-ended (placeOf i) list e = let z : _≡_ {A = ℕ} 0 1 = cc in omega arith
 reply-not-ended countOf list e = let z : _≡_ {A = ℕ} 0 1 = cc in omega arith
+reply-not-ended (boardOf ranks room) list e = let z : _≡_ {A = ℕ} 0 1 = cc in omega arith
 
 pub clubs-suppliable : Suppliable (plain clubs)
 clubs-suppliable = record { few = λ list w. omega (arith, w .room); no-cause = cause-not-ended; no-reply = reply-not-ended }

@@ -1,17 +1,20 @@
 -- The causes of the arguments, test by test, for what a store was found to hold.
 use mathlib.Core.Path.{_≡_, refl, _∙_}
-use mathlib.Core.Bool.{true, _||_, or-true}
+use mathlib.Core.Bool.{true, false, _||_, or-true}
+use mathlib.Core.List.{List}
 use mathlib.Core.Logic.{_≢_}
 use mathlib.Core.Option.{Option, some, none}
 use Prim.Native.Nat.{ℕ, _+_, _-_, _≤_, _<_}
 use borrow.Author.Tests.{lt-ltb, le-ltb, le-leb, lt-leb, eq-eqb, ne-eqb}
 use lib.Dec.{leb, ltb}
+use lib.ListN.{length}
 use Rattle.tree_rules.specs.declared.Change.{Change}
 use Rattle.tree_rules.specs.declared.Change.the-variants.{Insert, Delete}
+use Rattle.store_board.specs.Board.{falls, someFrom}
 use Rattle.call_outcomes.specs.declared.Cause.{Cause}
-use Rattle.call_outcomes.specs.declared.Cause.the-variants.{EntryZero, Rank, Full, OutputShort}
+use Rattle.call_outcomes.specs.declared.Cause.the-variants.{BoardRanks, EntryZero, Rank, Full, OutputShort}
 use Rattle.call_outcomes.specs.Causes.{firstOf}
-use Rattle.call_outcomes.specs.PlainCalls.{insertAt, deleteAt, plainChange, changeCause, readRanks, placeOf, countOf, questionCause}
+use Rattle.call_outcomes.specs.PlainCalls.{insertAt, deleteAt, plainChange, changeCause, readRanks, placeOf, countOf, boardOf, questionCause}
 use Rattle.call_open.specs.declared.Opened.{Opened}
 use Rattle.call_open.specs.declared.Opened.the-variants as opened
 use Rattle.call_open.specs.Opening.{admittedBy, admitted}
@@ -113,3 +116,31 @@ module _ {o : Opened} where
         unfolding questionCause firstOf
         read-admitted h =
             admitted-by reading (rw (lt-leb n first a, lt-leb n last b, le-ltb last first c, le-ltb room (last - first + 1) h))
+
+    -- ---- a board
+
+    module _ (ranks : List ℕ) (room : ℕ) where
+      abbrev board : ℕ → Option Cause
+      board = questionCause (boardOf ranks room)
+
+      pub board-many : 64 < length ranks → opened.Refused BoardRanks ≡ admitted board o
+      unfolding questionCause firstOf
+      board-many h = refused-by board BoardRanks (rw (lt-ltb 64 (length ranks) h))
+
+      pub board-falls : falls ranks ≡ true → opened.Refused BoardRanks ≡ admitted board o
+      unfolding questionCause firstOf
+      board-falls h = refused-by board BoardRanks (rw (h, or-true (ltb 64 (length ranks))))
+
+      module _ (few : length ranks ≤ 64) (in-order : falls ranks ≡ false) where
+        pub board-rank : someFrom n ranks ≡ true → opened.Refused Rank ≡ admitted board o
+        unfolding questionCause firstOf
+        board-rank h = refused-by board Rank (rw (le-ltb 64 (length ranks) few, in-order, h))
+
+        module _ (inside : someFrom n ranks ≡ false) where
+          pub board-short : room < length ranks → opened.Refused OutputShort ≡ admitted board o
+          unfolding questionCause firstOf
+          board-short h = refused-by board OutputShort (rw (le-ltb 64 (length ranks) few, in-order, inside, lt-ltb room (length ranks) h))
+
+          pub board-admitted : length ranks ≤ room → opened.Sheet n m ≡ admitted board o
+          unfolding questionCause firstOf
+          board-admitted h = admitted-by board (rw (le-ltb 64 (length ranks) few, in-order, inside, le-ltb room (length ranks) h))

@@ -3,7 +3,7 @@ ghost use mathlib.Core.Path.{_≡_};
 ghost use lib.ListN.{length};
 ghost use Rattle.store_layout.specs.Decode.{numbered};
 ghost use Rattle.store_layout.specs.Room.{CapacityReady};
-ghost use Rattle.call_outcomes.specs.PlainCalls.{insertAt, plainChange, changeCause, readRanks, placeOf, questionCause};
+ghost use Rattle.call_outcomes.specs.PlainCalls.{insertAt, plainChange, changeCause, readRanks, placeOf, boardOf, questionCause};
 ghost use Rattle.call_outcomes.specs.Untallied.{untalliedView, storeOf};
 ghost use Rattle.call_open.specs.Opening.{Opening, admitted};
 use call_outcomes::Cause;
@@ -105,6 +105,30 @@ pub fn admit_read(opened: Opened, first: usize, last: usize, room: usize) -> Ope
                 return Opened::Refused(Cause::Rank);
             }
             if room < last - first + 1 {
+                return Opened::Refused(Cause::OutputShort);
+            }
+            Opened::Sheet { n: n, m: m }
+        }
+        Opened::Refused(cause) => Opened::Refused(cause),
+    }
+}
+
+// Causes 16, 4 and 6 of a board of ranks, with room for so many entries in the output.
+pub fn admit_board(opened: Opened, ranks: &[u64], room: usize) -> Opened
+    ensures { λ r. ⌜ r ≡ admitted (questionCause (boardOf (now (ranks .entry)) room)) opened ⌝ }
+{
+    match opened {
+        Opened::Sheet { n, m } => {
+            if 64 < ranks.len() {
+                return Opened::Refused(Cause::BoardRanks);
+            }
+            if store_board::ranks_fall(ranks) {
+                return Opened::Refused(Cause::BoardRanks);
+            }
+            if store_board::some_rank_from(ranks, n) {
+                return Opened::Refused(Cause::Rank);
+            }
+            if room < ranks.len() {
                 return Opened::Refused(Cause::OutputShort);
             }
             Opened::Sheet { n: n, m: m }

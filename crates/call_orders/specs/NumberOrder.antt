@@ -27,6 +27,6 @@ decodeNumbered cap store = elim (numberedTest cap store) [ true ↦ some (record
 abbrev pub numberedView : Capacity → View
 numberedView cap = viewOf cap (layNumbered cap) (decodeNumbered cap)
 
--- The six calls on such sheets.
+-- The calls on such sheets.
 abbrev pub inNumberOrder : Capacity → Kind
 inNumberOrder cap = record { view = numberedView cap; calls = plainCalls (cap .entries) }

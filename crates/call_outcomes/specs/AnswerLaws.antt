@@ -21,6 +21,7 @@ pub cause-bounds : (c : Cause) → (0 < causeNumber c) × (causeNumber c < 2 ^ 8
 cause-bounds cause.Lengths = (omega arith, omega arith)
 cause-bounds cause.NotASheet = (omega arith, omega arith)
 cause-bounds cause.NotTimed = (omega arith, omega arith)
+cause-bounds cause.BoardRanks = (omega arith, omega arith)
 cause-bounds cause.EntryZero = (omega arith, omega arith)
 cause-bounds cause.EntryPresent = (omega arith, omega arith)
 cause-bounds cause.Rank = (omega arith, omega arith)

@@ -1,13 +1,15 @@
 -- What a call of a plain sheet that no cause refuses is given.
 use mathlib.Core.Path.{_≡_, refl}
-use mathlib.Core.Bool.{Bool, true, false, _||_}
-use mathlib.Core.List.{List}
+use mathlib.Core.Bool.{false, _||_}
+use mathlib.Core.List.{List, [], _∷_, flatten}
 use mathlib.Core.Option.{none}
 use Prim.Native.Nat.{ℕ, suc, _+_, _-_, _≤_, _<_}
 use native.Mathlib.Omega.{arith}
 use borrow.Author.Tests.{eqb-false, leb-false, ltb-false}
 use lib.Dec.{eqb, leb, ltb}
 use lib.ListN.{length, take}
+use lib.Seq.{drop-cons}
+use Rattle.base.specs.BoolLaws.{neither}
 use Rattle.base.specs.Lists.{Every}
 use Rattle.base.specs.ListLaws.{every-append, every-take, every-drop}
 use Rattle.tree_rules.specs.declared.Change.{Change}
@@ -16,10 +18,11 @@ use Rattle.tree_rules.specs.Compare.{countAfter}
 use Rattle.tree_rules.specs.Rules.{InReach}
 use Rattle.tree_rules.specs.ChangeList.{changeList}
 use Rattle.store_layout.specs.declared.Capacity.{Capacity}
-use Rattle.call_outcomes.specs.declared.Cause.the-variants.{EntryZero, Rank, Full, OutputShort}
+use Rattle.store_board.specs.Board.{falls, someFrom, entriesAt}
+use Rattle.call_outcomes.specs.declared.Cause.the-variants.{BoardRanks, EntryZero, Rank, Full, OutputShort}
 use Rattle.call_outcomes.specs.Kind.{View, applied}
 use Rattle.call_outcomes.specs.Causes.{firstOf}
-use Rattle.call_outcomes.specs.PlainCalls.{PlainChange, insertAt, deleteAt, plainChange, changeCause, editOf, Question, questionCause, readRanks, placeOf, AsPlain, plainCalls}
+use Rattle.call_outcomes.specs.PlainCalls.{PlainChange, insertAt, deleteAt, plainChange, changeCause, editOf, Question, readRanks, placeOf, boardOf, questionCause, writtenFor, AsPlain, plainCalls}
 use Rattle.call_outcomes.specs.DecisionLaws.{first-none}
 
 -- ---- insert and delete
@@ -56,13 +59,6 @@ edit-list (Delete i) e list = refl
 
 -- ---- read and place
 
--- None of three tests holds.
-none-of : (a b c : Bool) → (a || b || c) ≡ false → (a ≡ false) × (b ≡ false) × (c ≡ false)
-none-of false false false e = (refl, refl, refl)
-none-of false false true e = let z : _≡_ {A = ℕ} 0 1 = cc in absurd (omega arith)
-none-of false true c e = let z : _≡_ {A = ℕ} 0 1 = cc in absurd (omega arith)
-none-of true b c e = let z : _≡_ {A = ℕ} 0 1 = cc in absurd (omega arith)
-
 -- The ranks of a read stand, and there is room for their entries.
 pub read-within : (first last room n : ℕ) → questionCause (readRanks first last room) n ≡ none
     → (first ≤ last) × (last < n) × (last - first + 1 ≤ room)
@@ -70,12 +66,43 @@ unfolding questionCause
 read-within first last room n free =
     let count = last - first + 1 in
     let ranks = first-none (leb n first || leb n last || ltb last first) Rank (firstOf (ltb room count) OutputShort none) free in
-    let each = none-of (leb n first) (leb n last) (ltb last first) (ranks .0) in
-    (ltb-false last first (each .2), leb-false n last (each .1), ltb-false room count (first-none (ltb room count) OutputShort none (ranks .1) .0))
+    let last-two = neither (leb n first || leb n last) (ltb last first) (ranks .0) in
+    let first-two = neither (leb n first) (leb n last) (last-two .0) in
+    (ltb-false last first (last-two .1), leb-false n last (first-two .1), ltb-false room count (first-none (ltb room count) OutputShort none (ranks .1) .0))
 
 pub place-within : (i n : ℕ) → questionCause (placeOf i) n ≡ none → i < n
 unfolding questionCause
 place-within i n free = leb-false n i (first-none (leb n i) Rank none free .0)
+
+-- The ranks of a board do not fall and have entries, and there is room for these.
+pub record BoardWithin (ranks : List ℕ) (room n : ℕ) : Type 0 where
+  pub few : length ranks ≤ 64
+  pub in-order : falls ranks ≡ false
+  pub inside : someFrom n ranks ≡ false
+  pub enough : length ranks ≤ room
+
+pub board-within : (ranks : List ℕ) (room n : ℕ) → questionCause (boardOf ranks room) n ≡ none → BoardWithin ranks room n
+unfolding questionCause
+board-within ranks room n free =
+    let wrong = first-none (ltb 64 (length ranks) || falls ranks) BoardRanks _ free in
+    let both = neither (ltb 64 (length ranks)) (falls ranks) (wrong .0) in
+    let rank = first-none (someFrom n ranks) Rank _ (wrong .1) in
+    record {
+      few = ltb-false 64 (length ranks) (both .0);
+      in-order = both .1;
+      inside = rank .0;
+      enough = ltb-false room (length ranks) (first-none (ltb room (length ranks)) OutputShort none (rank .1) .0);
+    }
+
+-- What a board has for each rank is the entry at the rank.
+pub board-written : (ranks : List ℕ) (room : ℕ) (list : List ℕ) → someFrom (length list) ranks ≡ false
+    → writtenFor (boardOf ranks room) list ≡ entriesAt list ranks
+unfolding writtenFor someFrom flatten
+board-written [] room list h = refl
+board-written (rank ∷ ranks) room list h =
+    let both = neither (leb (length list) rank) (someFrom (length list) ranks) h in
+    let one : rank - rank + 1 ≡ 1 = omega arith in
+    rw (one, drop-cons list rank 0 (leb-false (length list) rank (both .0)), board-written ranks room list (both .1))
 
 -- Every question of a kind with the calls of plain sheets is itself.
 pub plain-itself : (view : View) (entries : ℕ) (q : Question) → AsPlain (record { view = view; calls = plainCalls entries }) q q

@@ -1,4 +1,4 @@
--- The numbers and values that an answer returns (document 01, "Causes and numbers"; document 02, F-1 and F-3). Definitions only.
+-- The numbers and values that an answer returns (document 01, "Causes and numbers"; document 02, F-1, F-3 and F-9). Definitions only.
 use Prim.Native.Nat.{ℕ}
 use Rattle.call_outcomes.specs.declared.Cause.{Cause}
 use Rattle.call_outcomes.specs.declared.Cause.the-variants as cause
@@ -11,6 +11,7 @@ abbrev pub causeNumber : Cause → ℕ
 causeNumber cause.Lengths = 1
 causeNumber cause.NotASheet = 2
 causeNumber cause.NotTimed = 11
+causeNumber cause.BoardRanks = 16
 causeNumber cause.EntryZero = 3
 causeNumber cause.EntryPresent = 10
 causeNumber cause.Rank = 4

@@ -4,5 +4,6 @@ pub mod AskedLaws
 pub mod AnswerLaws
 pub mod StartLaws
 pub mod ReadLaws
+pub mod BoardLaws
 pub mod TalliedLaws
 pub mod PlaceLaws

@@ -1,16 +1,16 @@
 -- A place on a plain sheet: the slot of the entry of the rank and the number of scoring boats before her, found by the counts and the tallies on the
 -- path down; and what is found there is the reply.
 use mathlib.Core.Path.{_≡_, sym, _∙_, ap}
-use mathlib.Core.List.{List, [], _∷_, _++_}
+use mathlib.Core.List.{List, [], _++_}
 use Prim.Native.Nat.{ℕ, _+_, _-_, _*_, _^_, _≤_, _<_}
 use native.Mathlib.Omega.{arith}
-use lib.ListN.{length, getD, take, drop, length-append, length-drop}
-use lib.Seq.{drop-drop, take-append-add, take-append-seam}
+use lib.ListN.{length, take, drop, length-append, length-drop}
+use lib.Seq.{take-append-add, take-append-seam}
 use Rattle.tree_sizes.specs.Sizes.{height}
 use Rattle.store_layout.specs.declared.Capacity.{Capacity}
 use Rattle.store_layout.specs.Leaf.{nonzero}
 use Rattle.store_layout.specs.Room.{CapacityReady}
-use Rattle.store_slices.specs.Reading.{Behind}
+use Rattle.store_slices.specs.Reading.{EntrySlot}
 use Rattle.store_scoring.specs.Scoring.{tally}
 use Rattle.store_scoring.specs.ScoringLaws.{tally-append}
 use Rattle.store_tallies.specs.TalliesIn.{tallyBefore}
@@ -20,14 +20,14 @@ use Rattle.store_rank.specs.LeafOfLaws.{leafOf-below}
 use Rattle.store_ties.specs.declared.Placing.{Placing}
 use Rattle.store_ties.specs.Ties.{placingIn}
 use Rattle.store_ties.specs.Steps.{entriesBefore, InSlot}
-use Rattle.store_ties.specs.BeforeLaws.{parted, next-entry}
+use Rattle.store_ties.specs.BeforeLaws.{parted}
 use Rattle.call_outcomes.specs.PlainCalls.{placeOf, questionCause, placed, replyTo, writtenFor}
 use Rattle.call_outcomes.specs.Untallied.{storeOf}
 use Rattle.call_open.specs.declared.Opened.{Opened}
 use Rattle.call_open.specs.declared.Opened.the-variants as opened
 use Rattle.call_open.specs.Opening.{admitted, OpenedSheet}
 use Rattle.call_questions.specs.Asked.{askedBy, asked}
-use Rattle.call_questions.specs.StartLaws.{entries-number, from-start}
+use Rattle.call_questions.specs.StartLaws.{entries-number, from-start, start-place}
 
 -- ---- the leaf that is found
 
@@ -57,16 +57,7 @@ module _ {cap : Capacity} {slots counts work : List ℕ} {n m : ℕ} (w : Opened
   rank-parted =
       let front = entriesBefore slots (start .slot) in
       let rest = nonzero (drop (start .slot) slots) in
-      let place : rank ≡ length front + start .rank =
-      omega (
-        arith,
-        ap length (from-start w ready rank is),
-        length-drop (start .rank) rest,
-        length-drop rank (nonzero slots),
-        ap length (parted slots (start .slot)),
-        length-append front rest,
-        entries-number w,
-      ) in
+      let place = start-place w ready rank is (omega (arith, below, entries-number w)) in
       ap (take rank) (parted slots (start .slot)) ∙ ap (λ (k : ℕ). take k (front ++ rest)) place ∙ take-append-add front rest (start .rank)
 
   -- The number of scoring boats before her, found on the path down, is that of counting the full list.
@@ -76,39 +67,28 @@ module _ {cap : Capacity} {slots counts work : List ℕ} {n m : ℕ} (w : Opened
       rw (leaf-before m work rank is slots, rank-parted)
       (sym (tally-append (entriesBefore slots (start .slot)) (take (start .rank) (nonzero (drop (start .slot) slots)))))
 
-  -- The slot right before the index behind her entry.
-  module _ (at : ℕ) (found : drop (start .rank + 1) (nonzero (drop (start .slot) slots)) ≡ nonzero (drop at slots)) (held : Behind slots at) where
-    pub rank-slot : InSlot slots (at - 1)
-    rank-slot = record { inside = omega (arith, held .some, held .inside); entry = held .entry }
+  -- Her slot.
+  module _ (slot : ℕ) (held : EntrySlot slots (start .slot) (start .rank) slot) where
+    pub rank-slot : InSlot slots slot
+    rank-slot = record { inside = held .inside; entry = held .entry }
 
-    rest-behind : drop (rank + 1) (nonzero slots) ≡ nonzero (drop at slots)
-    rest-behind =
-        sym (drop-drop 1 rank (nonzero slots))
-        ∙ ap (drop 1) (sym (from-start w ready rank is))
-        ∙ drop-drop 1 (start .rank) (nonzero (drop (start .slot) slots))
-        ∙ found
-
-    pub rank-number : length (entriesBefore slots (at - 1)) ≡ rank
+    pub rank-number : length (entriesBefore slots slot) ≡ rank
     rank-number =
-        let last : at - 1 + 1 ≡ at = omega (arith, held .some) in
         omega (
           arith,
-          ap length (next-entry slots (at - 1) rank-slot),
-          ap (λ (i : ℕ). length (entriesBefore slots i)) last,
-          length-append (entriesBefore slots (at - 1)) (getD slots (at - 1) 0 ∷ []),
-          ap length (parted slots at),
-          length-append (entriesBefore slots at) (nonzero (drop at slots)),
-          ap length rest-behind,
-          length-drop (rank + 1) (nonzero slots),
+          ap length (parted slots slot),
+          length-append (entriesBefore slots slot) (nonzero (drop slot slots)),
+          ap length (sym (held .rest) ∙ from-start w ready rank is),
+          length-drop rank (nonzero slots),
           entries-number w,
           below,
         )
 
-    pub rank-before : take rank (nonzero slots) ≡ entriesBefore slots (at - 1)
+    pub rank-before : take rank (nonzero slots) ≡ entriesBefore slots slot
     rank-before =
         rw (← rank-number)
-        (ap (take (length (entriesBefore slots (at - 1)))) (parted slots (at - 1))
-        ∙ take-append-seam (entriesBefore slots (at - 1)) (nonzero (drop (at - 1) slots)))
+        (ap (take (length (entriesBefore slots slot))) (parted slots slot)
+        ∙ take-append-seam (entriesBefore slots slot) (nonzero (drop slot slots)))
 
 -- ---- the reply
 

@@ -4,7 +4,8 @@ use mathlib.Core.List.{List}
 use mathlib.Core.Option.{some}
 use Prim.Native.Nat.{ℕ, _+_, _-_, _*_, _^_, _≤_, _<_}
 use native.Mathlib.Omega.{arith}
-use lib.ListN.{length, drop, length-drop}
+use lib.ListN.{length, drop, length-append, length-drop}
+use lib.Seq.{drop-append-seam}
 use Rattle.tree_sizes.specs.Sizes.{height}
 use Rattle.store_layout.specs.declared.Capacity.{Capacity}
 use Rattle.store_layout.specs.Layout.{Store, layOut}
@@ -18,6 +19,8 @@ use Rattle.store_layout.specs.SheetLaws.{decoded, decode-sound, length-counts}
 use Rattle.store_rank.specs.declared.Start.{Start}
 use Rattle.store_rank.specs.LeafOf.{startOf}
 use Rattle.store_rank.specs.LeafOfLaws.{decoded-start}
+use Rattle.store_ties.specs.Steps.{entriesBefore}
+use Rattle.store_ties.specs.BeforeLaws.{parted}
 use Rattle.call_outcomes.specs.Untallied.{storeOf}
 use Rattle.call_open.specs.Opening.{OpenedSheet}
 
@@ -65,3 +68,26 @@ module _ {cap : Capacity} {slots counts work : List ℕ} {n m : ℕ} (w : Opened
             length-drop (start .rank) (nonzero (drop (start .slot) slots)),
             length-drop rank (nonzero slots),
           )
+
+      -- The entries before the leaf are the first ones, by as many as the rank is higher than that in the leaf.
+      module _ (below : rank < length (nonzero slots)) where
+        pub start-place : rank ≡ length (entriesBefore slots (start .slot)) + start .rank
+        start-place =
+            let front = entriesBefore slots (start .slot) in
+            let rest = nonzero (drop (start .slot) slots) in
+            omega (
+              arith,
+              ap length from-start,
+              length-drop (start .rank) rest,
+              length-drop rank (nonzero slots),
+              ap length (parted slots (start .slot)),
+              length-append front rest,
+              below,
+            )
+
+        pub start-passed : nonzero (drop (start .slot) slots) ≡ drop (rank - start .rank) (nonzero slots)
+        start-passed =
+            let front = entriesBefore slots (start .slot) in
+            let rest = nonzero (drop (start .slot) slots) in
+            let passed : rank - start .rank ≡ length front = omega (arith, start-place) in
+            sym (ap (drop (rank - start .rank)) (parted slots (start .slot)) ∙ rw passed (drop-append-seam front rest))

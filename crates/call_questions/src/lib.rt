@@ -5,7 +5,7 @@ ghost use Prim.Native.Nat.{_<_};
 ghost use lib.ListN.{length};
 ghost use Rattle.store_layout.specs.Leaf.{nonzero};
 ghost use Rattle.store_ties.specs.Ties.{placingIn};
-ghost use Rattle.call_outcomes.specs.PlainCalls.{readRanks, placeOf, countOf};
+ghost use Rattle.call_outcomes.specs.PlainCalls.{readRanks, placeOf, countOf, boardOf};
 ghost use Rattle.call_questions.specs.Asked.{asked, Answers, Readable, Tallied, RoomFor, ByNumber};
 use call_open::Opened;
 use call_outcomes::Answer;
@@ -37,6 +37,32 @@ pub fn read(
     }
 }
 
+// Copies the entries at the ranks to the front of the output, in one walk along the slots: the leaves before that of the first rank are passed by
+// their counts, and from there on it goes forward only.
+pub fn board(
+    opened: Opened,
+    slots: &[u64],
+    work: &[u32],
+    ranks: &[u64],
+    output: &mut [u64],
+) -> Answer
+    requires { ⌜ Readable opened (now slots) (now work) ⌝ }
+    ensures { λ r. ⌜ record { answer = r; output = now (output .exit) }
+        ≡ asked (boardOf (now (ranks .entry)) (length (now (output .entry)))) opened (nonzero (now (slots .entry))) (now (output .entry)) ⌝ }
+{
+    match call_open::admit_board(opened, ranks, output.len()) {
+        Opened::Sheet { n: _, m } => {
+            if 0 < ranks.len() {
+                let lowest = ranks[0] as usize;
+                let start = store_rank::start_of(Size { m: m }, work, lowest);
+                store_board::copy_entries(slots, start.slot, lowest - start.rank, ranks, output);
+            }
+            Answer::Entries { count: ranks.len() }
+        }
+        Opened::Refused(cause) => Answer::Refused(cause),
+    }
+}
+
 // What the boat at the rank has, on a sheet with the size parameter m whose tallies stand by range number. The scoring boats before her are those
 // in the leaves before hers, by the tallies on the path down, and those before her in her leaf.
 fn placing_of(m: usize, slots: &[u64], work: &[u32], tallies: &[u32], rank: usize) -> Placing
@@ -47,8 +73,8 @@ fn placing_of(m: usize, slots: &[u64], work: &[u32], tallies: &[u32], rank: usiz
     let start = store_rank::start_of(Size { m: m }, work, rank);
     let ahead = store_tallies::tally_before(Size { m: m }, tallies, start.leaf);
     let before = ahead + store_scoring::scoring_among(slots, start.slot, start.rank);
-    let behind = store_slices::skip_entries(slots, start.slot, start.rank + 1);
-    store_ties::placing_at(slots, behind - 1, before, count_at(tallies, 1))
+    let slot = store_slices::entry_slot(slots, start.slot, start.rank);
+    store_ties::placing_at(slots, slot, before, count_at(tallies, 1))
 }
 
 // The place of the entry at the rank: that of her tied group, the sum of its places and the number of its boats; a retired boat has none.

@@ -19,7 +19,7 @@ use Rattle.call_outcomes.specs.declared.Answer.the-variants.{Present, Absent}
 use Rattle.call_outcomes.specs.Kind.{View, Calls, CallOf, change, ask, Kind}
 use Rattle.call_outcomes.specs.Causes.{firstOf}
 use Rattle.call_outcomes.specs.Outcome.{Outcome}
-use Rattle.call_outcomes.specs.PlainCalls.{PlainChange, insertAt, deleteAt, changeCause, editOf, Question, readRanks, placeOf, countOf, questionCause, replyTo, writtenFor, plainCalls}
+use Rattle.call_outcomes.specs.PlainCalls.{PlainChange, insertAt, deleteAt, changeCause, editOf, Question, readRanks, placeOf, countOf, boardOf, questionCause, replyTo, writtenFor, plainCalls}
 use Rattle.call_outcomes.specs.Untallied.{IsList}
 use Rattle.call_outcomes.specs.Slice.{Slice, Sliced, equalWith, withSlice}
 use Rattle.call_outcomes.specs.Plain.{plainView, PlainStore, PlainLengths, equalPlain, plainStoreOf}
@@ -121,7 +121,7 @@ timed cap = record { view = timedView cap; calls = timedCalls (cap .entries) }
 abbrev pub ranked : Capacity → Kind
 ranked cap = record { view = timedView cap; calls = plainCalls (cap .entries) }
 
--- The seven calls; clear is the one of every kind.
+-- The eight calls; clear is the one of every kind.
 abbrev pub TimedCall : Type 0
 TimedCall = CallOf TimedChange TimedQuestion
 
@@ -142,6 +142,9 @@ place rank = ask (asPlain (placeOf rank))
 
 abbrev pub check : TimedCall
 check = ask (asPlain countOf)
+
+abbrev pub board : List ℕ → ℕ → TimedCall
+board ranks room = ask (asPlain (boardOf ranks room))
 
 -- ---- the slices
 

@@ -1,7 +1,7 @@
 -- The reviewer's page: what is claimed of the clubs' sheets, a sentence and a theorem each. The definitions that the statements name stand in
--- store_order (TreeOrder), store_scoring (Scoring), store_tallies (Tallies, TalliesIn, HoldsTallies), store_ties (Groups, Ties), store_keys (Key),
+-- store_order (TreeOrder), store_board (Board), store_scoring (Scoring), store_tallies (Tallies, TalliesIn, HoldsTallies), store_ties (Groups, Ties), store_keys (Key),
 -- call_outcomes (Kind, Causes, Outcome, PlainCalls, Untallied, Slice, Plain, Clubs), call_timed (Timed), call_orders (Conversion, NumberOrder,
--- Converts), call_history (History, TapeRuns), call_corrections (Accepted, Reading), frame_sessions (Session) and frame_chunks (Chunk, Input).
+-- Converts), call_history (History, TapeRuns), call_corrections (Accepted), call_readings (Reading), frame_sessions (Session) and frame_chunks (Chunk, Input).
 use mathlib.Core.Path.{_≡_, refl}
 use mathlib.Core.Bool.{Bool, true, false}
 use mathlib.Core.Logic.{_≢_, _↔_, _⊎_}
@@ -29,8 +29,8 @@ use Rattle.store_order.specs.Copied.{up}
 use Rattle.store_layout.specs.Layout.{Store, layOut}
 use Rattle.store_layout.specs.Sheet.{IsContents}
 use Rattle.call_outcomes.specs.declared.Cause.{Cause}
-use Rattle.call_outcomes.specs.declared.Cause.the-variants.{NotASheet, NotTimed, EntryPresent, OutputShort, TapeEnded}
-use Rattle.call_outcomes.specs.declared.Answer.the-variants.{Checked, Changed, Present, Converted, Refused}
+use Rattle.call_outcomes.specs.declared.Cause.the-variants.{NotASheet, NotTimed, BoardRanks, EntryPresent, Rank, OutputShort, TapeEnded}
+use Rattle.call_outcomes.specs.declared.Answer.the-variants.{Checked, Changed, Entries, Present, Converted, Refused}
 use Rattle.call_outcomes.specs.Causes.{argumentCause}
 use Rattle.call_outcomes.specs.Outcome.{outcome, callProgram}
 use Rattle.call_outcomes.specs.PlainCalls.{Call, insertAt, deleteAt, editOf, insert, delete, place, check, placed, changing}
@@ -70,16 +70,18 @@ use Rattle.store_ties.specs.Ties.{tieBit, tiedIn, placingIn, TiesBack, StartsAt
 use Rattle.store_ties.specs.GroupLaws as groups
 use Rattle.store_ties.specs.PlacingLaws as placings
 use Rattle.store_ties.specs.ExactLaws as exact
+use Rattle.store_board.specs.Board.{falls}
 use Rattle.store_keys.specs.Key.{key, Rises, rankOf, present}
 use Rattle.store_keys.specs.KeyLaws as keys
 use Rattle.call_timed.specs.Timed as timed-calls
 use Rattle.call_timed.specs.Timed.{TimedStore, layTimed, TimedLengths, equalTimed, timedView, insertEntry, deleteRank, plainly, asPlain, foundAt, timed, TimedCall}
 use Rattle.call_timed.specs.TimedLaws.{timed-right, timed-as-plain}
 use Rattle.call_corrections.specs.Accepted.{AllAccepted}
-use Rattle.call_corrections.specs.Reading.{ranks, plainReading, timedReading}
 use Rattle.call_corrections.specs.Corrections as corrections
 use Rattle.call_corrections.specs.TimedCorrections as timed-corrections
-use Rattle.call_corrections.specs.ReadingLaws as readings
+use Rattle.call_readings.specs.Reading.{rankCount, plainReading, timedReading, plainBoard, timedBoard}
+use Rattle.call_readings.specs.ReadingLaws as readings
+use Rattle.call_readings.specs.BoardLaws as boards
 use Rattle.timed_history.specs.Clause as timed-clause
 use Rattle.timed_history.specs.Clause.{clubs-timed, timed-suppliable}
 use Rattle.timed_history.specs.TimedSheets as timed-sheets
@@ -456,18 +458,18 @@ back-shares before after store store′ right right′ =
 -- writes: the former lent the front of an output and the latter the rest of it leave, joined, the output that a read of the whole leaves, where
 -- there is room for it.
 pub readings-joined : (list : List ℕ) (store : PlainStore) → ClubSheet list store → (first mid last : ℕ) → first ≤ mid → mid < last → last < length list
-    → (tape tape₁ tape₂ output : List ℕ) → ranks first last ≤ length output
+    → (tape tape₁ tape₂ output : List ℕ) → rankCount first last ≤ length output
     → plainReading clubs store first last tape output .output
-    ≡ plainReading clubs store first mid tape₁ (take (ranks first mid) output) .output
-    ++ plainReading clubs store (suc mid) last tape₂ (drop (ranks first mid) output) .output
+    ≡ plainReading clubs store first mid tape₁ (take (rankCount first mid) output) .output
+    ++ plainReading clubs store (suc mid) last tape₂ (drop (rankCount first mid) output) .output
 readings-joined = readings.readings-joined (plain clubs) clubs-lawful (λ q. q) (plain-itself (plainView clubs) 1024)
 
 -- The read of the whole is refused by cause 6 exactly when one of the two is.
 pub joined-refused : (list : List ℕ) (store : PlainStore) → ClubSheet list store → (first mid last : ℕ) → first ≤ mid → mid < last → last < length list
     → (tape tape₁ tape₂ output : List ℕ)
     → (plainReading clubs store first last tape output .answer ≡ Refused OutputShort)
-    ↔ ((plainReading clubs store first mid tape₁ (take (ranks first mid) output) .answer ≡ Refused OutputShort)
-    ⊎ (plainReading clubs store (suc mid) last tape₂ (drop (ranks first mid) output) .answer ≡ Refused OutputShort))
+    ↔ ((plainReading clubs store first mid tape₁ (take (rankCount first mid) output) .answer ≡ Refused OutputShort)
+    ⊎ (plainReading clubs store (suc mid) last tape₂ (drop (rankCount first mid) output) .answer ≡ Refused OutputShort))
 joined-refused = readings.joined-refused (plain clubs) clubs-lawful (λ q. q) (plain-itself (plainView clubs) 1024)
 
 -- The same of timed sheets: two inserts by entry in either order, with keys that are not zero, not the same, and not in the list.
@@ -521,18 +523,85 @@ timed-back-shares before after store store′ right right′ =
 
 -- Adjacent readings of a timed sheet.
 pub timed-readings-joined : (list : List ℕ) (store : TimedStore) → TimedSheet list store → (first mid last : ℕ) → first ≤ mid → mid < last → last < length list
-    → (tape tape₁ tape₂ output : List ℕ) → ranks first last ≤ length output
+    → (tape tape₁ tape₂ output : List ℕ) → rankCount first last ≤ length output
     → timedReading clubs store first last tape output .output
-    ≡ timedReading clubs store first mid tape₁ (take (ranks first mid) output) .output
-    ++ timedReading clubs store (suc mid) last tape₂ (drop (ranks first mid) output) .output
+    ≡ timedReading clubs store first mid tape₁ (take (rankCount first mid) output) .output
+    ++ timedReading clubs store (suc mid) last tape₂ (drop (rankCount first mid) output) .output
 timed-readings-joined = readings.readings-joined (timed clubs) clubs-timed asPlain (timed-as-plain (timedView clubs) 1024)
 
 pub timed-joined-refused : (list : List ℕ) (store : TimedStore) → TimedSheet list store → (first mid last : ℕ) → first ≤ mid → mid < last → last < length list
     → (tape tape₁ tape₂ output : List ℕ)
     → (timedReading clubs store first last tape output .answer ≡ Refused OutputShort)
-    ↔ ((timedReading clubs store first mid tape₁ (take (ranks first mid) output) .answer ≡ Refused OutputShort)
-    ⊎ (timedReading clubs store (suc mid) last tape₂ (drop (ranks first mid) output) .answer ≡ Refused OutputShort))
+    ↔ ((timedReading clubs store first mid tape₁ (take (rankCount first mid) output) .answer ≡ Refused OutputShort)
+    ⊎ (timedReading clubs store (suc mid) last tape₂ (drop (rankCount first mid) output) .answer ≡ Refused OutputShort))
 timed-joined-refused = readings.joined-refused (timed clubs) clubs-timed asPlain (timed-as-plain (timedView clubs) 1024)
+
+-- ---- the notice board
+
+-- Of a board that is accepted, entry k of the output is what the read of rank k alone puts there,
+pub board-entry : (list : List ℕ) (store : PlainStore) → ClubSheet list store → (ranks tape output : List ℕ) (n : ℕ)
+    → plainBoard clubs store ranks tape output .answer ≡ Entries n → (k : ℕ) → k < length ranks → (tape′ : List ℕ) (x : ℕ)
+    → plainReading clubs store (getD ranks k 0) (getD ranks k 0) tape′ (x ∷ []) .output
+    ≡ getD (plainBoard clubs store ranks tape output .output) k 0 ∷ []
+board-entry = boards.board-entry (plain clubs) clubs-lawful (λ q. q) (plain-itself (plainView clubs) 1024)
+
+-- and the rest of the output stays.
+pub board-rest : (list : List ℕ) (store : PlainStore) → ClubSheet list store → (ranks tape output : List ℕ) (n : ℕ)
+    → plainBoard clubs store ranks tape output .answer ≡ Entries n
+    → drop (length ranks) (plainBoard clubs store ranks tape output .output) ≡ drop (length ranks) output
+board-rest = boards.board-rest (plain clubs) clubs-lawful (λ q. q) (plain-itself (plainView clubs) 1024)
+
+-- No ranks are accepted on any sheet, and nothing is written.
+pub board-none : (list : List ℕ) (store : PlainStore) → ClubSheet list store → (tape output : List ℕ)
+    → plainBoard clubs store [] tape output ≡ record { answer = Entries 0; store = store; output = output }
+board-none = boards.board-none (plain clubs) clubs-lawful (λ q. q) (plain-itself (plainView clubs) 1024)
+
+-- On a sheet, more than 64 ranks, or ranks that fall, are cause 16, whatever else is wrong with them.
+pub board-falls : (list : List ℕ) (store : PlainStore) → ClubSheet list store → (ranks tape output : List ℕ)
+    → (64 < length ranks) ⊎ (falls ranks ≡ true) → plainBoard clubs store ranks tape output .answer ≡ Refused BoardRanks
+board-falls = boards.board-falls (plain clubs) clubs-lawful (λ q. q) (plain-itself (plainView clubs) 1024)
+
+-- Other boards are refused by cause 4 exactly when the read of one of their ranks is.
+pub board-rank : (list : List ℕ) (store : PlainStore) → ClubSheet list store → (ranks tape output : List ℕ)
+    → length ranks ≤ 64 → falls ranks ≡ false → (tape′ : List ℕ) (x : ℕ)
+    → (plainBoard clubs store ranks tape output .answer ≡ Refused Rank)
+    ↔ ((k : ℕ) × (k < length ranks) × (plainReading clubs store (getD ranks k 0) (getD ranks k 0) tape′ (x ∷ []) .answer ≡ Refused Rank))
+board-rank = boards.board-rank (plain clubs) clubs-lawful (λ q. q) (plain-itself (plainView clubs) 1024)
+
+-- A board that is refused, on any store, leaves the output as it was.
+pub board-untouched : (store : PlainStore) (ranks tape output : List ℕ) (cause : Cause)
+    → plainBoard clubs store ranks tape output .answer ≡ Refused cause → plainBoard clubs store ranks tape output .output ≡ output
+board-untouched = boards.board-untouched (plain clubs) clubs-lawful (λ q. q) (plain-itself (plainView clubs) 1024)
+
+-- The same of timed sheets.
+pub timed-board-entry : (list : List ℕ) (store : TimedStore) → TimedSheet list store → (ranks tape output : List ℕ) (n : ℕ)
+    → timedBoard clubs store ranks tape output .answer ≡ Entries n → (k : ℕ) → k < length ranks → (tape′ : List ℕ) (x : ℕ)
+    → timedReading clubs store (getD ranks k 0) (getD ranks k 0) tape′ (x ∷ []) .output
+    ≡ getD (timedBoard clubs store ranks tape output .output) k 0 ∷ []
+timed-board-entry = boards.board-entry (timed clubs) clubs-timed asPlain (timed-as-plain (timedView clubs) 1024)
+
+pub timed-board-rest : (list : List ℕ) (store : TimedStore) → TimedSheet list store → (ranks tape output : List ℕ) (n : ℕ)
+    → timedBoard clubs store ranks tape output .answer ≡ Entries n
+    → drop (length ranks) (timedBoard clubs store ranks tape output .output) ≡ drop (length ranks) output
+timed-board-rest = boards.board-rest (timed clubs) clubs-timed asPlain (timed-as-plain (timedView clubs) 1024)
+
+pub timed-board-none : (list : List ℕ) (store : TimedStore) → TimedSheet list store → (tape output : List ℕ)
+    → timedBoard clubs store [] tape output ≡ record { answer = Entries 0; store = store; output = output }
+timed-board-none = boards.board-none (timed clubs) clubs-timed asPlain (timed-as-plain (timedView clubs) 1024)
+
+pub timed-board-falls : (list : List ℕ) (store : TimedStore) → TimedSheet list store → (ranks tape output : List ℕ)
+    → (64 < length ranks) ⊎ (falls ranks ≡ true) → timedBoard clubs store ranks tape output .answer ≡ Refused BoardRanks
+timed-board-falls = boards.board-falls (timed clubs) clubs-timed asPlain (timed-as-plain (timedView clubs) 1024)
+
+pub timed-board-rank : (list : List ℕ) (store : TimedStore) → TimedSheet list store → (ranks tape output : List ℕ)
+    → length ranks ≤ 64 → falls ranks ≡ false → (tape′ : List ℕ) (x : ℕ)
+    → (timedBoard clubs store ranks tape output .answer ≡ Refused Rank)
+    ↔ ((k : ℕ) × (k < length ranks) × (timedReading clubs store (getD ranks k 0) (getD ranks k 0) tape′ (x ∷ []) .answer ≡ Refused Rank))
+timed-board-rank = boards.board-rank (timed clubs) clubs-timed asPlain (timed-as-plain (timedView clubs) 1024)
+
+pub timed-board-untouched : (store : TimedStore) (ranks tape output : List ℕ) (cause : Cause)
+    → timedBoard clubs store ranks tape output .answer ≡ Refused cause → timedBoard clubs store ranks tape output .output ≡ output
+timed-board-untouched = boards.board-untouched (timed clubs) clubs-timed asPlain (timed-as-plain (timedView clubs) 1024)
 
 -- ---- the program
 

@@ -180,3 +180,26 @@ pub extern "C" fn sheet_to_number_order(counts: &mut [u16], answer: &mut [u64]) 
     }
     call_handed::hand(sheet_orders::to_number_order(counts).returned(), 2, answer)
 }
+
+// Copies the entries at the ranks, at most 64 that do not fall, to the front of the output.
+#[no_mangle]
+pub extern "C" fn sheet_board(
+    slots: &[u64],
+    counts: &[u16],
+    tallies: &[u16],
+    ranks: &[u64],
+    output: &mut [u64],
+    answer: &mut [u64],
+) -> usize
+    ensures { λ r. ⌜ record { number = r; store = plainStoreOf (now (slots .entry)) (now (counts .entry)) (now (tallies .entry)); output = now (output .exit); answer = now (answer .exit) }
+        ≡ handed (plain clubs) 2 (call.board (now (ranks .entry)) (length (now (output .entry)))) [] (plainStoreOf (now (slots .entry)) (now (counts .entry)) (now (tallies .entry))) (now (output .entry)) (now (answer .entry)) ⌝ }
+{
+    if answer.len() < 2 {
+        return 255;
+    }
+    call_handed::hand(
+        sheet_calls::board(slots, counts, tallies, ranks, output).returned(),
+        2,
+        answer,
+    )
+}

@@ -1,3 +1,3 @@
--- What the code of the six calls comes to.
+-- What the code of the seven calls comes to.
 pub mod ClearLaws
 pub mod QuestionLaws

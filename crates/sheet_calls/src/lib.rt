@@ -1,4 +1,4 @@
-// The clubs' packed finishing sheet: six calls on a store of three lent slices.
+// The clubs' packed finishing sheet: seven calls on a store of three lent slices.
 ghost use mathlib.Core.Path.{_≡_};
 ghost use mathlib.Core.List.{[]};
 ghost use lib.ListN.{length};
@@ -129,4 +129,20 @@ pub fn check(slots: &[u64], counts: &[u16], tallies: &[u16]) -> Answer
     let mut work = [0u32; 256];
     let opened = sheet_open::examine(slots, counts, tallies, &mut work);
     call_questions::check(opened)
+}
+
+// Copies the entries at the ranks, at most 64 that do not fall, to the front of the output.
+pub fn board(
+    slots: &[u64],
+    counts: &[u16],
+    tallies: &[u16],
+    ranks: &[u64],
+    output: &mut [u64],
+) -> Answer
+    ensures { λ r. ⌜ plainOutcomeOf r (now (slots .entry)) (now (counts .entry)) (now (tallies .entry)) (now (output .exit))
+        ≡ outcome (plain clubs) (call.board (now (ranks .entry)) (length (now (output .entry)))) [] (plainStoreOf (now (slots .entry)) (now (counts .entry)) (now (tallies .entry))) (now (output .entry)) ⌝ }
+{
+    let mut work = [0u32; 256];
+    let opened = sheet_open::examine(slots, counts, tallies, &mut work);
+    call_questions::board(opened, slots, &work, ranks, output)
 }

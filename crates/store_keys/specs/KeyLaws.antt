@@ -1,6 +1,6 @@
 -- Laws of keys: the test that a list rises, parts of a list that rises, ranks and presence in lists put together, and one entry more or less.
 use mathlib.Core.Path.{_≡_, refl, sym, ap, _∙_}
-use mathlib.Core.Bool.{Bool, true, false, _||_, or-assoc, or-false, or-true}
+use mathlib.Core.Bool.{true, false, _||_, or-assoc, or-false, or-true}
 use mathlib.Core.List.{List, [], _∷_, _++_}
 use mathlib.Core.Logic.{_≢_, ⊎-elim}
 use Prim.Native.Nat.{ℕ, zero, suc, _+_, _*_, _^_, _≤_, _<_}
@@ -10,7 +10,7 @@ use lib.Dec.{eqb, ltb}
 use lib.ListN.{length, getD, take, drop, take-append-drop}
 use borrow.Author.Tests.{eq-eqb, lt-ltb, ltb-true, ne-eqb, eqb-false}
 use Rattle.base.specs.CaseLaws.{by-lt, ifLt-yes, ifLt-no, lt-or-ge}
-use Rattle.base.specs.BoolLaws.{and-both}
+use Rattle.base.specs.BoolLaws.{and-both, neither}
 use Rattle.base.specs.ListLaws.{every-getD}
 use Rattle.base.specs.Lists.{Every}
 use Rattle.store_keys.specs.Key.{key, RiseFrom, riseFrom, Rises, rankOf, present, KeysBelow, KeysAbove}
@@ -165,10 +165,6 @@ module _ (k e i : ℕ) (list : List ℕ) where
       present-append k (take i list) (e ∷ drop i list)
       ∙ rw (ne-eqb (key e) k other)
       (sym (present-append k (take i list) (drop i list)) ∙ ap (present k) (take-append-drop i list) ∙ absent)
-
-neither : (a b : Bool) → (a || b) ≡ false → (a ≡ false) × (b ≡ false)
-neither true b h = let z : _≡_ {A = ℕ} 0 1 = cc in absurd (omega arith)
-neither false b h = (refl, h)
 
 insert-from : (low e : ℕ) (list : List ℕ) → RiseFrom low list → low < key e → present (key e) list ≡ false
     → RiseFrom low (take (rankOf (key e) list) list ++ (e ∷ drop (rankOf (key e) list) list))

@@ -1,25 +1,24 @@
 -- Entries read out of slots from left to right: what one slot more leaves.
 use mathlib.Core.Path.{_≡_, refl, sym, _∙_, ap, ap₂}
 use mathlib.Core.List.{List, [], _∷_, _++_}
-use Prim.Native.Nat.{ℕ, _+_, _-_, _≤_, _<_}
+use Prim.Native.Nat.{ℕ, _+_, _≤_, _<_}
 use native.Mathlib.Numerals.{add-one}
 use native.Mathlib.Omega.{arith}
 use lib.ListN.{length, getD, take, drop, set, length-drop, length-set, take-append-drop}
 use lib.Seq.{drop-cons, take-suc, take-set-le, take-suc-set, drop-set-lt}
 use Rattle.store_layout.specs.Leaf.{nonzero}
 use Rattle.store_layout.specs.LeafLaws.{nonzero-zero, nonzero-entry, nonzero-length}
-use Rattle.store_slices.specs.Reading.{Behind, Reading}
+use Rattle.store_slices.specs.Reading.{EntrySlot, Reading}
 
 -- ---- the slot i, where the entries behind the first `seen` are those of the slots from i on
 
 -- There is such a slot. If it is empty, the same entries are those of the slots behind it; if not, it holds the entry number `seen`,
--- and the entries behind that one are those of the slots behind it, which start right behind an entry.
+-- and the entries behind that one are those of the slots behind it.
 pub record Slot (slots entries : List ℕ) (seen i : ℕ) : Type 0 where
   pub inside : i < length slots
   pub empty : getD slots i 0 ≡ 0 → drop seen entries ≡ nonzero (drop (i + 1) slots)
   pub entry : (getD slots i 0 ≡ 0 → ⊥) → getD slots i 0 ≡ getD entries seen 0
   pub next : (getD slots i 0 ≡ 0 → ⊥) → drop (seen + 1) entries ≡ nonzero (drop (i + 1) slots)
-  pub behind : (getD slots i 0 ≡ 0 → ⊥) → Behind slots (i + 1)
 
 pub slot-read : (slots entries : List ℕ) (seen i : ℕ) → drop seen entries ≡ nonzero (drop i slots) → seen < length entries
     → Slot slots entries seen i
@@ -28,7 +27,6 @@ slot-read slots entries seen i rest more = record {
   empty = λ zero. rest ∙ rw slot (nonzero-zero (getD slots i 0) (drop (i + 1) slots) zero);
   entry = λ full. cc (both full);
   next = λ full. cc (both full);
-  behind = λ full. let last : i + 1 - 1 ≡ i = omega arith in record { some = omega arith; inside = omega (arith, inside); entry = rw last (omega arith) };
 }
   where
     inside : i < length slots
@@ -41,6 +39,12 @@ slot-read slots entries seen i rest more = record {
     both full =
         rw (add-one seen, ← drop-cons entries seen 0 more)
         (rest ∙ rw slot (nonzero-entry (getD slots i 0) (drop (i + 1) slots) (omega arith)))
+
+-- What stands in the slot of an entry is this entry.
+pub slot-entry : {slots : List ℕ} {start number slot : ℕ} → EntrySlot slots start number slot → number < length (nonzero (drop start slots))
+    → getD slots slot 0 ≡ getD (nonzero (drop start slots)) number 0
+slot-entry {slots} {start} {number} {slot} w more =
+    slot-read slots (nonzero (drop start slots)) number slot (w .rest) more .entry (λ zero. omega (arith, w .entry, zero))
 
 -- ---- the output
 

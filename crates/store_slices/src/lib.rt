@@ -7,7 +7,7 @@ ghost use lib.ListN.{length, take, drop, replicate};
 ghost use Rattle.store_layout.specs.Leaf.{nonzero};
 ghost use Rattle.tree_rules.specs.Rules.{InReach};
 ghost use Rattle.store_slices.specs.Changed.{Changed};
-ghost use Rattle.store_slices.specs.Reading.{Behind};
+ghost use Rattle.store_slices.specs.Reading.{EntrySlot};
 
 // Puts the entry e in at index i among the first n entries: those from i on move one place to the right, the last of them to index n.
 fn put_in(list: &mut [u64], n: usize, i: usize, e: u64)
@@ -64,12 +64,10 @@ pub fn zero_slots(slots: &mut [u64], from: usize, to: usize)
     }
 }
 
-// The slot behind the first `first` entries of those from `start` on: the others stand from it on. Where there are entries to pass, the last of
-// them stands in the slot right before it.
+// The slot behind the first `first` entries of those from `start` on: the others stand from it on.
 pub fn skip_entries(slots: &[u64], start: usize, first: usize) -> usize
     requires entries { ⌜ first ≤ length (nonzero (drop start (now slots))) ⌝ }
-    ensures { λ r. ⌜ (drop first (nonzero (drop start (now (slots .entry)))) ≡ nonzero (drop r (now (slots .entry))))
-        × (0 < first → Behind (now (slots .entry)) r) ⌝ }
+    ensures { λ r. ⌜ (start ≤ r) × (drop first (nonzero (drop start (now (slots .entry)))) ≡ nonzero (drop r (now (slots .entry)))) ⌝ }
 {
     let mut seen = 0;
     let mut at = start;
@@ -79,6 +77,18 @@ pub fn skip_entries(slots: &[u64], start: usize, first: usize) -> usize
         if x != 0 {
             seen += 1;
         }
+    }
+    at
+}
+
+// The slot of the entry number `number` (from 0) of those from `start` on: the empty ones before it are passed too.
+pub fn entry_slot(slots: &[u64], start: usize, number: usize) -> usize
+    requires entries { ⌜ number < length (nonzero (drop start (now slots))) ⌝ }
+    ensures { λ r. ⌜ EntrySlot (now (slots .entry)) start number r ⌝ }
+{
+    let mut at = skip_entries(slots, start, number);
+    while slots[at] == 0 {
+        at += 1;
     }
     at
 }

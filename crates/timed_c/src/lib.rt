@@ -170,3 +170,27 @@ pub extern "C" fn timed_check(
         answer,
     )
 }
+
+// Copies the entries at the ranks, at most 64 that do not fall, to the front of the output.
+#[no_mangle]
+pub extern "C" fn timed_board(
+    slots: &[u64],
+    counts: &[u16],
+    tallies: &[u16],
+    balance: &[u64],
+    ranks: &[u64],
+    output: &mut [u64],
+    answer: &mut [u64],
+) -> usize
+    ensures { λ r. ⌜ record { number = r; store = timedStoreOf (now (slots .entry)) (now (counts .entry)) (now (tallies .entry)) (now (balance .entry)); output = now (output .exit); answer = now (answer .exit) }
+        ≡ handed (timed clubs) 2 (call.board (now (ranks .entry)) (length (now (output .entry)))) [] (timedStoreOf (now (slots .entry)) (now (counts .entry)) (now (tallies .entry)) (now (balance .entry))) (now (output .entry)) (now (answer .entry)) ⌝ }
+{
+    if answer.len() < 2 {
+        return 255;
+    }
+    call_handed::hand(
+        timed_calls::board(slots, counts, tallies, balance, ranks, output).returned(),
+        2,
+        answer,
+    )
+}

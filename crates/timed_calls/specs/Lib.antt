@@ -1,4 +1,4 @@
--- What the code of the seven calls comes to.
+-- What the code of the eight calls comes to.
 pub mod SheetLaws
 pub mod QuestionLaws
 pub mod EntryLaws

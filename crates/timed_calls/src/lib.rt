@@ -1,4 +1,4 @@
-// The clubs' timed sheet: seven calls on a store of four lent slices.
+// The clubs' timed sheet: eight calls on a store of four lent slices.
 ghost use mathlib.Core.Path.{_≡_};
 ghost use mathlib.Core.List.{[]};
 ghost use lib.ListN.{length};
@@ -178,4 +178,22 @@ pub fn check(slots: &[u64], counts: &[u16], tallies: &[u16], balance: &[u64]) ->
     let mut work = [0u32; 256];
     let opened = timed_open::examine(slots, counts, tallies, balance, &mut work);
     call_questions::check(opened)
+}
+
+// Copies the entries at the ranks, at most 64 that do not fall, to the front of the output.
+pub fn board(
+    slots: &[u64],
+    counts: &[u16],
+    tallies: &[u16],
+    balance: &[u64],
+    ranks: &[u64],
+    output: &mut [u64],
+) -> Answer
+    ensures { λ r. ⌜ timedOutcomeOf r (now (slots .entry)) (now (counts .entry)) (now (tallies .entry)) (now (balance .entry)) (now (output .exit))
+        ≡ outcome (timed clubs) (call.board (now (ranks .entry)) (length (now (output .entry)))) []
+        (timedStoreOf (now (slots .entry)) (now (counts .entry)) (now (tallies .entry)) (now (balance .entry))) (now (output .entry)) ⌝ }
+{
+    let mut work = [0u32; 256];
+    let opened = timed_open::examine(slots, counts, tallies, balance, &mut work);
+    call_questions::board(opened, slots, &work, ranks, output)
 }

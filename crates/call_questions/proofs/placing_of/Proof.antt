@@ -3,12 +3,10 @@ use mathlib.Core.Path.{_≡_, _∙_, ap}
 use Prim.Native.Nat.{_+_, _≤_, _<_}
 use native.Mathlib.Omega.{arith}
 use denote.Ref.{now}
-use lib.ListN.{length, take, drop, length-drop}
+use lib.ListN.{length, take, drop}
 use lib.Pow.{pow-pos}
 use Rattle.tree_sizes.specs.Sizes.{height}
 use Rattle.store_layout.specs.Leaf.{nonzero}
-use Rattle.store_layout.specs.LeafLaws.{nonzero-length}
-use Rattle.store_slices.specs.Reading.{Behind}
 use Rattle.store_scoring.specs.Scoring.{tally}
 use Rattle.store_scoring.specs.ScoringLaws.{tally-front, tally-most}
 use Rattle.store_tallies.specs.PathLaws.{path-before}
@@ -69,52 +67,37 @@ add-before c =
     let s = c .before .before .before .before .before .before in
     omega (arith, number c, tally-front (s .args .rank) (nonzero (now (s .args .slots))))
 
-add-skip-entries : tie.Need-add-skip-entries
-add-skip-entries c =
-    let e = c .before .before .before in
-    let slots = now (e .before .before .before .before .args .slots) in
-    let slot = e .start-of .result .slot in
-    omega (arith, enough e, nonzero-length (drop slot slots), length-drop slot slots)
-
-skip-entries-requires : tie.Need-skip-entries-requires
-skip-entries-requires c κs = enough (c .before .before .before)
-
--- Her slot is the one right before the index behind her entry.
-held : (c : tie.After-skip-entries)
-    → Behind (now (c .before .before .before .before .before .before .before .before .args .slots)) (c .skip-entries .result)
-held c = c .skip-entries .ensures .1 (omega arith)
-
-sub-placing-at : tie.Need-sub-placing-at
-sub-placing-at c = held c .some
+entry-slot-requires : tie.Need-entry-slot-requires
+entry-slot-requires c κs = omega (arith, enough (c .before .before))
 
 count-at-requires : tie.Need-count-at-requires
 count-at-requires c κs =
-    let s = c .before .before .before .before .before .before .before .before in
+    let s = c .before .before .before .before .before .before .before in
     omega (arith, numbers-room (s .pre .0), pow-pos (height (s .args .m)))
 
 placing-at-requires : tie.Need-placing-at-requires
 placing-at-requires c κs =
     let k = c .before in
-    let e = k .before .before .before .before in
+    let e = k .before .before .before in
     let s = e .before .before .before .before in
     let t = s .pre .0 in
     let slots = now (s .args .slots) in
-    let number-is = number (k .before .before) in
+    let number-is = number (k .before) in
     let whole = c .count-at .ensures ∙ root-tallied t in
-    let before = rank-before (t .sheet) (t .ready) (s .args .rank) (e .start-of .ensures) (below s) (k .skip-entries .result) (k .skip-entries .ensures .0) (held k) in (
-      rank-slot (t .sheet) (t .ready) (s .args .rank) (e .start-of .ensures) (below s) (k .skip-entries .result) (k .skip-entries .ensures .0) (held k),
+    let before = rank-before (t .sheet) (t .ready) (s .args .rank) (e .start-of .ensures) (below s) (k .entry-slot .result) (k .entry-slot .ensures) in (
+      rank-slot (t .sheet) (t .ready) (s .args .rank) (e .start-of .ensures) (below s) (k .entry-slot .result) (k .entry-slot .ensures),
       (number-is ∙ ap tally before, (whole, omega (arith, whole, tally-most (nonzero slots), entries-number (t .sheet), entries-few (t .sheet) (t .ready)))),
     )
 
 returns : tie.Need-returns
 returns c =
     let k = c .before .before in
-    let e = k .before .before .before .before in
+    let e = k .before .before .before in
     let s = e .before .before .before .before in
     let t = s .pre .0 in
     c .placing-at .ensures
     ∙ ap (placingIn (nonzero (now (s .args .slots))))
-    (rank-number (t .sheet) (t .ready) (s .args .rank) (e .start-of .ensures) (below s) (k .skip-entries .result) (k .skip-entries .ensures .0) (held k))
+    (rank-number (t .sheet) (t .ready) (s .args .rank) (e .start-of .ensures) (below s) (k .entry-slot .result) (k .entry-slot .ensures))
 
 pub placing-of-spec : {M : Type 1} → statement M
 placing-of-spec =
@@ -124,9 +107,7 @@ placing-of-spec =
     tally-before-requires
     scoring-among-requires
     add-before
-    add-skip-entries
-    skip-entries-requires
-    sub-placing-at
+    entry-slot-requires
     count-at-requires
     placing-at-requires
     returns)

@@ -43,7 +43,7 @@ skip-entries-requires : tie.Need-skip-entries-requires Inv-loop μ-loop
 skip-entries-requires c κs = omega arith
 
 loop-holds : tie.Need-loop-holds Inv-loop μ-loop
-loop-holds c = (omega arith, c .skip-entries .ensures .0, reading-none (omega arith))
+loop-holds c = (omega arith, c .skip-entries .ensures .1, reading-none (omega arith))
 
 mul-x : tie.Need-mul-x Inv-loop μ-loop
 mul-x c = omega (arith, slot c .inside)

@@ -1,5 +1,5 @@
 -- `skip_entries` meets its contract. The loop's invariant: of the entries from `start` on, those behind the first `seen` are those of the slots
--- from `at` on, and where all were seen, the last one stands right before `at`.
+-- from `at` on, which is not before `start`.
 use mathlib.Core.Path.{_≡_, refl, ap, _∙_}
 use Prim.Native.Nat.{ℕ, _-_, _≤_, _<_}
 use native.Mathlib.Omega.{arith}
@@ -7,14 +7,13 @@ use borrow.Author.Needs.{needs}
 use denote.Ref.{now}
 use lib.ListN.{length, drop}
 use Rattle.store_layout.specs.Leaf.{nonzero}
-use Rattle.store_slices.specs.Reading.{Behind}
 use Rattle.store_slices.specs.ReadLaws.{Slot, slot-read}
 use Rattle.store_slices.proofs.skip_entries.Statement.{statement}
 use Rattle.store_slices.proofs.skip_entries.Tie as tie
 
 abbrev Inv-loop : tie.InvT-loop
 Inv-loop slots start first seen₀ at₀ seen at =
-    (seen ≤ first) × (drop seen (nonzero (drop start slots)) ≡ nonzero (drop at slots)) × (first ≤ seen → 0 < first → Behind slots at)
+    (seen ≤ first) × (drop seen (nonzero (drop start slots)) ≡ nonzero (drop at slots)) × (start ≤ at)
 
 abbrev μ-loop : tie.MeasureT-loop
 μ-loop slots start first seen₀ at₀ seen at = length slots - at
@@ -29,7 +28,7 @@ slot c =
     slot-read (now (a .slots)) (nonzero (drop (a .start) (now (a .slots)))) (h .seen) (h .at) (h .inv .1) (omega arith)
 
 loop-holds : tie.Need-loop-holds Inv-loop μ-loop
-loop-holds c = (omega arith, refl, λ all some. absurd (omega arith))
+loop-holds c = (omega arith, refl, omega arith)
 
 mul-x : tie.Need-mul-x Inv-loop μ-loop
 mul-x c = omega (arith, slot c .inside)
@@ -47,20 +46,20 @@ loop-less : tie.Need-loop-less Inv-loop μ-loop
 loop-less c = omega (arith, slot (c .before .before) .inside)
 
 loop-again : tie.Need-loop-again Inv-loop μ-loop
-loop-again c = let s = slot (c .before .before) in (omega arith, s .next (c .if1 .taken), λ all some. s .behind (c .if1 .taken))
+loop-again c = let s = slot (c .before .before) in (omega arith, s .next (c .if1 .taken), omega arith)
 
 loop-less-2 : tie.Need-loop-less-2 Inv-loop μ-loop
 loop-less-2 c = omega (arith, slot (c .before .before) .inside)
 
 loop-again-2 : tie.Need-loop-again-2 Inv-loop μ-loop
-loop-again-2 c = let s = slot (c .before .before) in (omega arith, s .empty (c .if1 .left), λ all some. absurd (omega arith))
+loop-again-2 c = let s = slot (c .before .before) in (omega arith, s .empty (c .if1 .left), omega arith)
 
 returns : tie.Need-returns Inv-loop μ-loop
 returns c =
     let l = c .before in
     let a = l .before .args in
     let all : a .first ≡ l .loop .seen = omega arith in
-    (ap (λ (x : ℕ). drop x (nonzero (drop (a .start) (now (a .slots))))) all ∙ l .loop .inv .1, λ some. l .loop .inv .2 (omega arith) some)
+    (l .loop .inv .2, ap (λ (x : ℕ). drop x (nonzero (drop (a .start) (now (a .slots))))) all ∙ l .loop .inv .1)
 
 pub skip-entries-spec : {M : Type 1} → statement M
 skip-entries-spec =

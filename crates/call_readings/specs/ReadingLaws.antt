@@ -21,95 +21,95 @@ use Rattle.call_outcomes.specs.Outcome.{Outcome, outcome}
 use Rattle.call_outcomes.specs.PlainCalls.{Question, readRanks, questionCause, replyTo, writtenFor, AsPlain}
 use Rattle.call_history.specs.Refusals.{refused-by}
 use Rattle.call_history.specs.SingleCalls.{question-by}
-use Rattle.call_corrections.specs.Reading.{ranks}
+use Rattle.call_readings.specs.Reading.{rankCount}
 
 -- ---- what a read writes
 
 -- As many entries as it has ranks, where they stand.
 written-length : (list : List ℕ) (first last room : ℕ) → first ≤ last → last < length list
-    → length (writtenFor (readRanks first last room) list) ≡ ranks first last
+    → length (writtenFor (readRanks first last room) list) ≡ rankCount first last
 unfolding writtenFor
-written-length list first last room in-order inside = length-part list first (ranks first last) (omega arith)
+written-length list first last room in-order inside = length-part list first (rankCount first last) (omega arith)
 
 -- What a read of first to mid writes, and then what a read of mid + 1 to last writes, is what a read of first to last writes.
 pub written-joined : (list : List ℕ) (first mid last room room₁ room₂ : ℕ) → first ≤ mid → mid < last
     → writtenFor (readRanks first last room) list ≡ writtenFor (readRanks first mid room₁) list ++ writtenFor (readRanks (suc mid) last room₂) list
 unfolding writtenFor
 written-joined list first mid last room room₁ room₂ before behind =
-    let both : ranks first last ≡ ranks first mid + ranks (suc mid) last = omega arith in
-    let next : first + ranks first mid ≡ suc mid = omega arith in
-    rw (both, take-add (ranks first mid) (ranks (suc mid) last) (drop first list), drop-drop (ranks first mid) first list, next)
+    let both : rankCount first last ≡ rankCount first mid + rankCount (suc mid) last = omega arith in
+    let next : first + rankCount first mid ≡ suc mid = omega arith in
+    rw (both, take-add (rankCount first mid) (rankCount (suc mid) last) (drop first list), drop-drop (rankCount first mid) first list, next)
 
 -- ---- a read of a sheet whose ranks stand
 
 module _ (kind : Kind) (lawful : Lawful kind) (asks : Question → kind .calls .Question) (plainly : (q : Question) → AsPlain kind (asks q) q)
     (list : List ℕ) (store : StoreFor kind) (w : SheetOf (kind .view) list store) where
-  -- A read of the ranks first to last that is lent this output.
-  abbrev read : (first last : ℕ) → (tape output : List ℕ) → Outcome (StoreFor kind)
+  -- A read of the rankCount first to last that is lent this output.
+  abbrev pub read : (first last : ℕ) → (tape output : List ℕ) → Outcome (StoreFor kind)
   read first last tape output = outcome kind (ask (asks (readRanks first last (length output)))) tape store output
 
   module _ (first last : ℕ) (in-order : first ≤ last) (inside : last < length list) (tape output : List ℕ) where
-    cause-is : questionCause (readRanks first last (length output)) (length list) ≡ firstOf (ltb (length output) (ranks first last)) OutputShort none
+    cause-is : questionCause (readRanks first last (length output)) (length list) ≡ firstOf (ltb (length output) (rankCount first last)) OutputShort none
     unfolding questionCause firstOf
     cause-is = rw (lt-leb (length list) first (omega arith), lt-leb (length list) last inside, le-ltb last first in-order)
 
     -- It is refused by cause 6 where the output is too short.
-    read-short : length output < ranks first last → read first last tape output .answer ≡ Refused OutputShort
+    read-short : length output < rankCount first last → read first last tape output .answer ≡ Refused OutputShort
     unfolding argumentCause firstOf
     read-short short =
         refused-by kind lawful list store w (ask (asks (readRanks first last (length output)))) OutputShort
-        (plainly _ .causes list ∙ cause-is ∙ rw (lt-ltb (length output) (ranks first last) short)) tape output
+        (plainly _ .causes list ∙ cause-is ∙ rw (lt-ltb (length output) (rankCount first last) short)) tape output
 
     -- Otherwise the entries come to the front of the output, and the rest of it stays.
-    read-made : ranks first last ≤ length output
+    pub read-made : rankCount first last ≤ length output
         → read first last tape output
         ≡ record {
-          answer = Entries (ranks first last);
+          answer = Entries (rankCount first last);
           store = store;
-          output = writtenFor (readRanks first last (length output)) list ++ drop (ranks first last) output;
+          output = writtenFor (readRanks first last (length output)) list ++ drop (rankCount first last) output;
         }
     unfolding firstOf replyTo
     read-made room =
         question-by kind lawful list store w (asks (readRanks first last (length output)))
-        (plainly _ .causes list ∙ cause-is ∙ rw (le-ltb (length output) (ranks first last) room)) tape output
+        (plainly _ .causes list ∙ cause-is ∙ rw (le-ltb (length output) (rankCount first last) room)) tape output
         ∙ rw (plainly (readRanks first last (length output)) .reply list, plainly (readRanks first last (length output)) .written list, written-length list first last (length output) in-order inside)
 
     -- So it is refused by cause 6 only where the output is too short.
-    short-only : read first last tape output .answer ≡ Refused OutputShort → length output < ranks first last
+    short-only : read first last tape output .answer ≡ Refused OutputShort → length output < rankCount first last
     short-only refused =
         ⊎-elim (λ short. short)
         (λ room.
         let made = ap (λ (o : Outcome (StoreFor kind)). o .answer) (read-made room) in
         let z : _≡_ {A = ℕ} 0 1 = cc in absurd (omega arith))
-        (lt-or-ge (length output) (ranks first last))
+        (lt-or-ge (length output) (rankCount first last))
 
   -- ---- two adjacent reads, into the front of an output and the rest of it
 
   module _ (first mid last : ℕ) (before : first ≤ mid) (behind : mid < last) (inside : last < length list) (tape tape₁ tape₂ output : List ℕ) where
     abbrev front : List ℕ
-    front = take (ranks first mid) output
+    front = take (rankCount first mid) output
 
     abbrev rest : List ℕ
-    rest = drop (ranks first mid) output
+    rest = drop (rankCount first mid) output
 
     -- The first read fills the front.
-    filled : drop (ranks first mid) front ≡ []
-    filled = drop-take (ranks first mid) (ranks first mid) output ∙ rw (sub-self (ranks first mid))
+    filled : drop (rankCount first mid) front ≡ []
+    filled = drop-take (rankCount first mid) (rankCount first mid) output ∙ rw (sub-self (rankCount first mid))
 
-    front-length : length front ≡ min (ranks first mid) (length output)
-    front-length = length-take (ranks first mid) output
+    front-length : length front ≡ min (rankCount first mid) (length output)
+    front-length = length-take (rankCount first mid) output
 
-    rest-length : length rest ≡ length output - ranks first mid
-    rest-length = length-drop (ranks first mid) output
+    rest-length : length rest ≡ length output - rankCount first mid
+    rest-length = length-drop (rankCount first mid) output
 
     -- The outputs joined are that of the read of the whole, where there is room for it.
-    pub readings-joined : ranks first last ≤ length output
+    pub readings-joined : rankCount first last ≤ length output
         → read first last tape output .output ≡ read first mid tape₁ front .output ++ read (suc mid) last tape₂ rest .output
     readings-joined room =
         let whole = read-made first last (omega arith) inside tape output room in
         let one = read-made first mid before (omega arith) tape₁ front (omega (arith, front-length)) in
         let other = read-made (suc mid) last behind inside tape₂ rest (omega (arith, rest-length)) in
-        let count : ranks first last ≡ ranks first mid + ranks (suc mid) last = omega arith in
+        let count : rankCount first last ≡ rankCount first mid + rankCount (suc mid) last = omega arith in
         let W₁ = writtenFor (readRanks first mid (length front)) list in
         let W₂ = writtenFor (readRanks (suc mid) last (length rest)) list in
         rw (
@@ -118,7 +118,7 @@ module _ (kind : Kind) (lawful : Lawful kind) (asks : Question → kind .calls .
           other,
           filled,
           append-nil W₁,
-          drop-drop (ranks (suc mid) last) (ranks first mid) output,
+          drop-drop (rankCount (suc mid) last) (rankCount first mid) output,
           count,
           written-joined list first mid last (length output) (length front) (length rest) before behind,
         )
@@ -133,7 +133,7 @@ module _ (kind : Kind) (lawful : Lawful kind) (asks : Question → kind .calls .
           ⊎-elim
           (λ few. inl (read-short first mid before (omega arith) tape₁ front (omega (arith, front-length))))
           (λ enough. inr (read-short (suc mid) last behind inside tape₂ rest (omega (arith, rest-length))))
-          (lt-or-ge (length output) (ranks first mid)),
+          (lt-or-ge (length output) (rankCount first mid)),
       λ either.
           read-short first last (omega arith) inside tape output
           (⊎-elim
