@@ -1,6 +1,6 @@
 /* A small display program: enters boats, two of them in a dead heat, strikes one out, and prints place, points and sail number of each; then
- * one retires; then stores that are refused; then a full sheet, half of it retired; then a store from before the tree order and the tallies;
- * then the kinds of some lines, and what frames are answered by on a cleared sheet. */
+ * one retires; then a notice board; then stores that are refused; then a full sheet, half of it retired; then a store from before the tree order
+ * and the tallies; then the kinds of some lines, and what frames are answered by on a cleared sheet. */
 #include "frames.h"
 #include "points.h"
 #include "sheet.h"
@@ -70,6 +70,25 @@ static void retire(void) {
     display();
     mark(1, SHEET_RETIRED);
     display();
+}
+
+/* A notice board: the boats at some ranks, one of which is there twice. It is printed after boards that are refused, which leave the output as
+ * it was. */
+static void board(void) {
+    static const uint64_t ranks[] = {0, 1, 1, 3}, fall[] = {4, 0}, high[] = {2, 4}, zeros[SHEET_BOARD + 1] = {0};
+    uint64_t output[SHEET_BOARD + 1];
+    size_t i, n;
+
+    accepted("board", sheet_board(STORE, zeros, SHEET_BOARD, output, SHEET_BOARD, answer, 2));
+    accepted("board", sheet_board(STORE, ranks, 4, output, 4, answer, 2));
+    n = (size_t)answer[0];
+    printf("ranks that fall: %zu\n", sheet_board(STORE, fall, 2, output, 4, answer, 2));
+    printf("too many ranks: %zu\n", sheet_board(STORE, zeros, SHEET_BOARD + 1, output, SHEET_BOARD + 1, answer, 2));
+    printf("a rank too high: %zu\n", sheet_board(STORE, high, 2, output, 4, answer, 2));
+    printf("output too short: %zu\n", sheet_board(STORE, zeros, 4, output, 3, answer, 2));
+    printf("%zu boats on the board\n", n);
+    for (i = 0; i < n; i++)
+        printf("%" PRIu64 "%s\n", output[i] & ~(SHEET_TIED | SHEET_RETIRED), output[i] & SHEET_RETIRED ? " retired" : "");
 }
 
 /* Stores that are refused: a tally that is wrong, and tallies of another length. */
@@ -145,6 +164,7 @@ int main(void) {
     delete(2);
     display();
     retire();
+    board();
     refusals();
 
     printf("rank too high: %zu\n", sheet_place(STORE, n, answer, 3));

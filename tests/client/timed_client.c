@@ -1,6 +1,6 @@
 /* A small display program for timed finishes: enters boats in the order in which their finishes come in, two of them in a dead heat, asks for
- * some of them, strikes one out, and prints place, points, time and sail number of each; then one retires; then causes that a call is refused
- * by; then a full sheet, some boats of which have retired and each of which is found. */
+ * some of them, strikes one out, and prints place, points, time and sail number of each; then one retires; then a notice board; then causes
+ * that a call is refused by; then a full sheet, some boats of which have retired and each of which is found. */
 #include "points.h"
 #include "tape.h"
 #include "timed.h"
@@ -93,6 +93,27 @@ static void race(void) {
     display();
 }
 
+/* A notice board: the boats at some ranks, one of which is there three times. It is printed after boards that are refused, which leave the
+ * output as it was. */
+static void board(void) {
+    static const uint64_t ranks[] = {1, 1, 1, 3, 4}, fall[] = {5, 0}, high[] = {0, 5}, zeros[5] = {0};
+    uint64_t output[5];
+    size_t i, n;
+
+    accepted("board", timed_board(STORE, ranks, 5, output, 5, answer, 2));
+    n = (size_t)answer[0];
+    printf("ranks that fall: %zu", timed_board(STORE, fall, 2, output, 5, answer, 2));
+    balance[0] = 1;
+    printf(", and a third slice wrong: %zu\n", timed_board(STORE, fall, 2, output, 5, answer, 2));
+    balance[0] = 0;
+    printf("a rank too high: %zu\n", timed_board(STORE, high, 2, output, 5, answer, 2));
+    printf("output too short: %zu\n", timed_board(STORE, zeros, 5, output, 4, answer, 2));
+    printf("%zu boats on the board\n", n);
+    for (i = 0; i < n; i++)
+        printf("%" PRIu64 " %" PRIu64 "%s%s\n", (output[i] & ~(SHEET_TIED | SHEET_RETIRED)) >> 32, output[i] & UINT32_MAX,
+               output[i] & SHEET_TIED ? " tied" : "", output[i] & SHEET_RETIRED ? " retired" : "");
+}
+
 /* What the calls are refused by. */
 static void refusals(void) {
     printf("entered again: %zu\n", timed_insert(STORE, finish(3605, 7), tape, waiting, answer, 2));
@@ -173,6 +194,7 @@ static void fill(void) {
 
 int main(void) {
     race();
+    board();
     refusals();
     fill();
     if (words_drawn != words_read + waiting)

@@ -1,6 +1,7 @@
 //! Random histories of calls, with refused calls, boats that retire and conversions
 //! of the order of the counts among them.
 
+use crate::boards::board;
 use crate::{stores, Both, Call, Returned, Store};
 use reference::places::{RETIRED, TIED};
 use reference::random::SplitMix64;
@@ -80,6 +81,10 @@ fn some_call(random: &mut SplitMix64, n: usize, target: usize, bits: Bits) -> Ca
         2..=5 => Call::Place { rank: rank(random, n) },
         6 => Call::Check,
         7 if random.below(60) == 0 => Call::Clear,
+        8 => {
+            let (ranks, output) = board(random, n);
+            Call::Board { ranks, output }
+        }
         _ if (n < target) == (random.below(8) != 0) => Call::Insert {
             rank: rank(random, n),
             entry: entry(random, bits),
@@ -127,7 +132,7 @@ fn retire(both: &mut Both, random: &mut SplitMix64) -> [Returned; 3] {
 /// were those of tied and of retired boats.
 #[derive(Debug, Default)]
 pub struct Met {
-    pub numbers: [u64; 12],
+    pub numbers: [u64; 17],
     pub tied: u64,
     pub retired: u64,
 }

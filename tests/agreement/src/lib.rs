@@ -1,6 +1,7 @@
 //! The proved library beside the second implementation: each call is made on
 //! both, and answers, output and stores must be the same.
 
+pub mod boards;
 pub mod histories;
 pub mod lines;
 pub mod program;
@@ -65,6 +66,7 @@ pub enum Call {
     Insert { rank: usize, entry: u64, tape: Vec<u32> },
     Delete { rank: usize, tape: Vec<u32> },
     Read { first: usize, last: usize, output: Vec<u64> },
+    Board { ranks: Vec<u64>, output: Vec<u64> },
     Place { rank: usize },
     Check,
     ToTreeOrder,
@@ -121,6 +123,10 @@ impl Lent for Store {
                 out = output.clone();
                 calls::read(slots, counts, tallies, *first, *last, &mut out)
             }
+            Call::Board { ranks, output } => {
+                out = output.clone();
+                calls::board(slots, counts, tallies, ranks, &mut out)
+            }
             Call::Place { rank } => calls::place(slots, counts, tallies, *rank),
             Call::Check => calls::check(slots, counts, tallies),
             Call::ToTreeOrder => conversions::to_tree_order(counts),
@@ -169,7 +175,12 @@ impl<S: Lent> Both<S> {
 
     /// Makes the call on both; they agree, or the test ends with the seed and
     /// the history.
-    pub fn call(&mut self, mut call: S::Call) -> Returned {
+    pub fn call(&mut self, call: S::Call) -> Returned {
+        self.call_with_output(call).0
+    }
+
+    /// The same: what the call returned, and the output.
+    pub fn call_with_output(&mut self, mut call: S::Call) -> (Returned, Vec<u64>) {
         let (answer, output) = self.store.by_reference(&call);
         let (proved, proved_output) = self.proved.by_proved(&call);
         let same = answer == proved && output == proved_output && self.store == self.proved;
@@ -190,7 +201,7 @@ impl<S: Lent> Both<S> {
             output == proved_output,
             self.history(),
         );
-        answer
+        (answer, output)
     }
 
     /// The last calls, and the name of a file with all of them.

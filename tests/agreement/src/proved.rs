@@ -55,6 +55,20 @@ extern "C" {
         answer: *mut u64,
         answer_len: usize,
     ) -> usize;
+    fn sheet_board(
+        slots: *const u64,
+        slots_len: usize,
+        counts: *const u16,
+        counts_len: usize,
+        tallies: *const u16,
+        tallies_len: usize,
+        ranks: *const u64,
+        ranks_len: usize,
+        output: *mut u64,
+        output_len: usize,
+        answer: *mut u64,
+        answer_len: usize,
+    ) -> usize;
     fn sheet_place(
         slots: *const u64,
         slots_len: usize,
@@ -115,6 +129,11 @@ pub fn call_with(call: &Call, store: &mut Store, room: usize) -> (u64, Vec<u64>,
             Call::Read { first, last, output } => {
                 out = output.clone();
                 sheet_read(s, s_len, c, c_len, t, t_len, *first, *last, out.as_mut_ptr(), out.len(), a, a_len)
+            }
+            Call::Board { ranks, output } => {
+                out = output.clone();
+                let (r, r_len, o, o_len) = (ranks.as_ptr(), ranks.len(), out.as_mut_ptr(), out.len());
+                sheet_board(s, s_len, c, c_len, t, t_len, r, r_len, o, o_len, a, a_len)
             }
             Call::Place { rank } => sheet_place(s, s_len, c, c_len, t, t_len, *rank, a, a_len),
             Call::Check => sheet_check(s, s_len, c, c_len, t, t_len, a, a_len),

@@ -62,6 +62,7 @@ impl Tabled for Store {
             shares::Call::Insert { rank, entry } => Call::Insert { rank, entry, tape },
             shares::Call::Delete { rank } => Call::Delete { rank, tape },
             shares::Call::Read { first, last, output } => Call::Read { first, last, output: vec![0; output] },
+            shares::Call::Board { ranks, output } => Call::Board { ranks: ranks.to_vec(), output: vec![0; output] },
             shares::Call::Place { rank } => Call::Place { rank },
             shares::Call::Check => Call::Check,
         }
@@ -107,6 +108,7 @@ impl Tabled for timed::Store {
             timed_shares::Call::Delete { rank } => Call::Delete { rank, tape },
             timed_shares::Call::Find { entry } => Call::Find { entry },
             timed_shares::Call::Read { first, last, output } => Call::Read { first, last, output: vec![0; output] },
+            timed_shares::Call::Board { ranks, output } => Call::Board { ranks: ranks.to_vec(), output: vec![0; output] },
             timed_shares::Call::Place { rank } => Call::Place { rank },
             timed_shares::Call::Check => Call::Check,
         }

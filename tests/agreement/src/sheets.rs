@@ -18,11 +18,31 @@ impl Sheets {
         }
     }
 
+    /// A call on each sheet: what they return, which is the same, and the output.
+    fn call(&mut self, plain: Call, timed: timed::Call) -> (Returned, Vec<u64>) {
+        let returned = self.plain.call_with_output(plain);
+        assert_eq!(self.timed.call_with_output(timed), returned);
+        returned
+    }
+
     /// Place of a rank, on both sheets.
     pub fn place(&mut self, rank: usize) -> Returned {
-        let returned = self.plain.call(Call::Place { rank });
-        assert_eq!(self.timed.call(timed::Call::Place { rank }), returned);
-        returned
+        self.call(Call::Place { rank }, timed::Call::Place { rank }).0
+    }
+
+    /// A read of one rank, on both sheets.
+    pub fn read(&mut self, rank: usize, output: &[u64]) -> (Returned, Vec<u64>) {
+        let (first, last) = (rank, rank);
+        let plain = Call::Read { first, last, output: output.to_vec() };
+        let timed = timed::Call::Read { first, last, output: output.to_vec() };
+        self.call(plain, timed)
+    }
+
+    /// A board, on both sheets.
+    pub fn board(&mut self, ranks: &[u64], output: &[u64]) -> (Returned, Vec<u64>) {
+        let plain = Call::Board { ranks: ranks.to_vec(), output: output.to_vec() };
+        let timed = timed::Call::Board { ranks: ranks.to_vec(), output: output.to_vec() };
+        self.call(plain, timed)
     }
 
     pub fn places(&mut self, ranks: impl IntoIterator<Item = usize>) {

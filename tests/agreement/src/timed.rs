@@ -13,6 +13,7 @@ pub enum Call {
     Delete { rank: usize, tape: Vec<u32> },
     Find { entry: u64 },
     Read { first: usize, last: usize, output: Vec<u64> },
+    Board { ranks: Vec<u64>, output: Vec<u64> },
     Place { rank: usize },
     Check,
 }
@@ -82,6 +83,10 @@ impl Lent for Store {
             Call::Read { first, last, output } => {
                 out = output.clone();
                 timed::read(slots, counts, tallies, balance, *first, *last, &mut out)
+            }
+            Call::Board { ranks, output } => {
+                out = output.clone();
+                timed::board(slots, counts, tallies, balance, ranks, &mut out)
             }
             Call::Place { rank } => timed::place(slots, counts, tallies, balance, *rank),
             Call::Check => timed::check(slots, counts, tallies, balance),
@@ -180,6 +185,22 @@ extern "C" {
         answer: *mut u64,
         answer_len: usize,
     ) -> usize;
+    fn timed_board(
+        slots: *const u64,
+        slots_len: usize,
+        counts: *const u16,
+        counts_len: usize,
+        tallies: *const u16,
+        tallies_len: usize,
+        balance: *const u64,
+        balance_len: usize,
+        ranks: *const u64,
+        ranks_len: usize,
+        output: *mut u64,
+        output_len: usize,
+        answer: *mut u64,
+        answer_len: usize,
+    ) -> usize;
     fn timed_place(
         slots: *const u64,
         slots_len: usize,
@@ -227,6 +248,11 @@ fn call_with(call: &Call, store: &mut Store, room: usize) -> (u64, Vec<u64>, Vec
             Call::Read { first, last, output } => {
                 out = output.clone();
                 timed_read(s, s_len, c, c_len, t, t_len, b, b_len, *first, *last, out.as_mut_ptr(), out.len(), a, a_len)
+            }
+            Call::Board { ranks, output } => {
+                out = output.clone();
+                let (r, r_len, o, o_len) = (ranks.as_ptr(), ranks.len(), out.as_mut_ptr(), out.len());
+                timed_board(s, s_len, c, c_len, t, t_len, b, b_len, r, r_len, o, o_len, a, a_len)
             }
             Call::Place { rank } => timed_place(s, s_len, c, c_len, t, t_len, b, b_len, *rank, a, a_len),
             Call::Check => timed_check(s, s_len, c, c_len, t, t_len, b, b_len, a, a_len),

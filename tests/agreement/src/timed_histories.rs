@@ -1,5 +1,6 @@
 //! Random timed histories, with refused calls and boats that retire among them.
 
+use crate::boards::board;
 use crate::histories::{rank, tape, with_bits, Bits, Met};
 use crate::timed::{Call, Store};
 use crate::{stores, Both, Returned};
@@ -35,6 +36,10 @@ fn some_call(random: &mut SplitMix64, store: &Store, target: usize, bits: Bits) 
         6 => Call::Check,
         7 if random.below(60) == 0 => Call::Clear,
         7..=11 => Call::Find { entry: entry(random, store, bits) },
+        12 => {
+            let (ranks, output) = board(random, n);
+            Call::Board { ranks, output }
+        }
         _ if (n < target) == (random.below(8) != 0) => Call::Insert {
             entry: entry(random, store, bits),
             tape: tape(random),

@@ -16,17 +16,17 @@ fn histories(seeds: std::ops::Range<u64>, calls: u64, targets: &[usize], causes:
 
 #[test]
 fn short_lists() {
-    histories(0..10, 10_000, SHORT, &[0, 3, 4, 7]);
+    histories(0..10, 10_000, SHORT, &[0, 3, 4, 7, 16]);
 }
 
 #[test]
 fn from_one_range_to_many() {
-    histories(100..110, 10_000, BORDER, &[0, 2, 3, 4, 6, 7]);
+    histories(100..110, 10_000, BORDER, &[0, 2, 3, 4, 6, 7, 16]);
 }
 
 #[test]
 fn full_and_back() {
-    histories(200..204, 25_000, FULL, &[0, 2, 5, 6, 7]);
+    histories(200..204, 25_000, FULL, &[0, 2, 5, 6, 7, 16]);
 }
 
 /// Document 01: N 1,024, insert at rank 1,024 gives 5, at rank 1,025 gives 4.

@@ -8,7 +8,7 @@ use reference::layout::{Shape, SIZE, TALLIES};
 use reference::places::RETIRED;
 use reference::random::SplitMix64;
 
-const REFUSED_2: [u64; 6] = [2, 2, 2, 2, 2, 0];
+const REFUSED_2: [u64; 7] = [2, 2, 2, 2, 2, 2, 0];
 
 /// A sheet of n entries.
 fn sheet(seed: u64, n: usize) -> Store {
@@ -24,15 +24,16 @@ fn sheet(seed: u64, n: usize) -> Store {
     both.store
 }
 
-/// The six calls on a store, each from the start: the numbers of their causes. A
+/// The seven calls on a store, each from the start: the numbers of their causes. A
 /// refused call leaves the store as it was.
-fn all_calls(seed: u64, store: &Store) -> [u64; 6] {
+fn all_calls(seed: u64, store: &Store) -> [u64; 7] {
     let words = tape(&mut SplitMix64::new(seed));
     [
         Call::Check,
         Call::Insert { rank: 0, entry: 3, tape: words.clone() },
         Call::Delete { rank: 0, tape: words },
         Call::Read { first: 0, last: 0, output: vec![5; 2] },
+        Call::Board { ranks: vec![0, 0], output: vec![5; 3] },
         Call::Place { rank: 0 },
         Call::Clear,
     ]
@@ -165,8 +166,8 @@ fn leaf_rule_of_document_01() {
             assert_eq!(same, n == m && m <= 64, "N {n} M {m}");
             let numbers = match (same, n) {
                 (false, _) => REFUSED_2,
-                (true, 0) => [0, 0, 4, 4, 4, 0],
-                (true, _) => [0; 6],
+                (true, 0) => [0, 0, 4, 4, 4, 4, 0],
+                (true, _) => [0; 7],
             };
             assert_eq!(all_calls(61, &store), numbers, "N {n} M {m}");
             accepted += u32::from(same);
@@ -220,7 +221,7 @@ fn wrong_lengths() {
             store.slots.resize(slots, 0);
             store.counts.resize(counts, 0);
             store.tallies.resize(tallies, 0);
-            assert_eq!(all_calls(21, &store), [1; 6], "{slots} slots, {counts} counts, {tallies} tallies");
+            assert_eq!(all_calls(21, &store), [1; 7], "{slots} slots, {counts} counts, {tallies} tallies");
         }
     }
 }

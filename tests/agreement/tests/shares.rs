@@ -20,6 +20,11 @@ const fn delete(rank: usize) -> shares::Call {
     shares::Call::Delete { rank }
 }
 
+/// A board whose output has two places.
+const fn board(ranks: &'static [u64]) -> shares::Call {
+    shares::Call::Board { ranks, output: 2 }
+}
+
 /// Histories that end with the list 1, 2, 3.
 fn with_the_same_list() -> Vec<Vec<shares::Call>> {
     vec![
@@ -28,6 +33,7 @@ fn with_the_same_list() -> Vec<Vec<shares::Call>> {
         vec![insert(0, 1), insert(1, 2), insert(2, 3), insert(1, 9), delete(1)],
         vec![insert(0, 9), insert(0, 8), delete(1), delete(0), insert(0, 2), insert(0, 1), insert(2, 3)],
         vec![insert(0, 7), shares::Call::Clear, insert(0, 1), insert(1, 3), shares::Call::Check, insert(1, 2)],
+        vec![insert(0, 1), board(&[0, 0]), insert(1, 2), board(&[1, 0]), board(&[0, 2]), insert(2, 3), board(&[0, 2])],
         vec![insert(0, 1), insert(9, 4), insert(1, 0), insert(1, 3), delete(5), shares::Call::Place { rank: 7 }, insert(1, 2)],
     ]
 }

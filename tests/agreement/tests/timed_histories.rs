@@ -21,17 +21,17 @@ fn histories(seeds: std::ops::Range<u64>, calls: u64, targets: &[usize], causes:
 
 #[test]
 fn short_lists() {
-    histories(5000..5010, 5_000, SHORT, &[0, 2, 3, 4, 7, 10]);
+    histories(5000..5010, 5_000, SHORT, &[0, 2, 3, 4, 7, 10, 16]);
 }
 
 #[test]
 fn from_one_range_to_many() {
-    histories(5100..5110, 5_000, BORDER, &[0, 2, 3, 4, 6, 7, 10]);
+    histories(5100..5110, 5_000, BORDER, &[0, 2, 3, 4, 6, 7, 10, 16]);
 }
 
 #[test]
 fn full_and_back() {
-    histories(5200..5204, 20_000, FULL, &[0, 2, 3, 4, 5, 6, 7, 10]);
+    histories(5200..5204, 20_000, FULL, &[0, 2, 3, 4, 5, 6, 7, 10, 16]);
 }
 
 /// The list of a sheet does not depend on the order of the inserts.

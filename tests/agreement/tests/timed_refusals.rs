@@ -16,8 +16,8 @@ use reference::timed::BALANCE;
 
 /// An entry below all those of a sheet made here.
 const LOWEST: u64 = 3;
-const REFUSED_2: [u64; 7] = [2, 2, 2, 2, 2, 2, 0];
-const REFUSED_11: [u64; 7] = [11, 11, 11, 11, 11, 11, 0];
+const REFUSED_2: [u64; 8] = [2, 2, 2, 2, 2, 2, 2, 0];
+const REFUSED_11: [u64; 8] = [11, 11, 11, 11, 11, 11, 11, 0];
 /// An entry with these bits alone has no key.
 const BITS: [u64; 3] = [TIED, RETIRED, TIED | RETIRED];
 
@@ -29,9 +29,9 @@ fn sheet(seed: u64, n: usize) -> Store {
     Store::of_size(&list, m, &mut random)
 }
 
-/// The seven calls on a store, each from the start: the numbers of their causes.
+/// The eight calls on a store, each from the start: the numbers of their causes.
 /// A refused call leaves the store as it was.
-fn all_calls(seed: u64, store: &Store) -> [u64; 7] {
+fn all_calls(seed: u64, store: &Store) -> [u64; 8] {
     let words = tape(&mut SplitMix64::new(seed));
     [
         Call::Check,
@@ -39,6 +39,7 @@ fn all_calls(seed: u64, store: &Store) -> [u64; 7] {
         Call::Delete { rank: 0, tape: words },
         Call::Find { entry: LOWEST },
         Call::Read { first: 0, last: 0, output: vec![5; 2] },
+        Call::Board { ranks: vec![0, 0], output: vec![5; 3] },
         Call::Place { rank: 0 },
         Call::Clear,
     ]
@@ -280,7 +281,7 @@ fn wrong_lengths() {
             store.counts.resize(counts, 0);
             store.tallies.resize(tallies, 0);
             store.balance.resize(balance, 0);
-            assert_eq!(all_calls(6071, &store), [1; 7], "{slots} slots, {counts} counts, {tallies} tallies, {balance} words");
+            assert_eq!(all_calls(6071, &store), [1; 8], "{slots} slots, {counts} counts, {tallies} tallies, {balance} words");
         }
     }
 }

@@ -20,6 +20,11 @@ const fn find(entry: u64) -> timed_shares::Call {
     timed_shares::Call::Find { entry }
 }
 
+/// A board whose output has two places.
+const fn board(ranks: &'static [u64]) -> timed_shares::Call {
+    timed_shares::Call::Board { ranks, output: 2 }
+}
+
 /// Histories that end with the list 1, 2, 3.
 fn with_the_same_list() -> Vec<Vec<timed_shares::Call>> {
     vec![
@@ -28,6 +33,7 @@ fn with_the_same_list() -> Vec<Vec<timed_shares::Call>> {
         vec![insert(1), insert(9), insert(3), insert(2), delete(3)],
         vec![insert(9), insert(8), delete(1), delete(0), insert(2), insert(1), insert(3)],
         vec![insert(7), timed_shares::Call::Clear, insert(2), insert(3), timed_shares::Call::Check, insert(1)],
+        vec![insert(3), board(&[0, 0]), insert(1), board(&[1, 0]), board(&[0, 2]), insert(2), board(&[0, 2])],
         vec![insert(1), find(1), insert(1), insert(0), insert(3), delete(5), find(2), find(0), insert(3), insert(2)],
     ]
 }

@@ -1,5 +1,6 @@
-//! The six calls on lent slices (01, "Causes and numbers"; 02, F-3, F-11).
+//! The seven calls on lent slices (01, "Causes and numbers"; 02, F-3, F-9, F-11).
 
+use crate::board::board_of;
 use crate::coins::{Source, Tape};
 use crate::layout::{sheet_in, Counts, Node, Shape, Sheet, Slots, Tallies, ROOT};
 use crate::places::{standing, Standing};
@@ -22,11 +23,14 @@ pub enum Cause {
     EntryZero = 3,
     /// 02, F-1: "the entry is already there", "after 3".
     Present = 10,
+    /// 02, F-9: "the ranks fall or are more than 64, after 2 and before 4." A board
+    /// takes no entry, so that 3 and 10 cannot refuse it.
+    Board = 16,
     /// Rank > N (insert), ≥ N (others), or first > last.
     Rank = 4,
     /// Insert with N = 1,024.
     Full = 5,
-    /// Output shorter than last − first + 1.
+    /// Output shorter than last − first + 1, or than the ranks of a board are many.
     Output = 6,
     /// The tape ends before a draw is decided.
     TapeEnds = 7,
@@ -49,7 +53,7 @@ pub enum Answer {
     Cleared,
     /// Insert and delete: the new N, and the words read.
     Changed { n: usize, words: usize },
-    /// Read: the number of entries.
+    /// Read and board: the number of entries.
     Read { entries: usize },
     /// Place of a rank: the place, the sum of places and the number of boats of
     /// its tied group; 0, 0 and 1 of a retired boat.
@@ -191,6 +195,22 @@ pub(crate) fn read_sheet(
         *entry = slots[slot];
     }
     Ok(Answer::Read { entries })
+}
+
+/// The notice board: reads `ranks` into the front of `output` (02, F-9).
+pub fn board(
+    slots: &[u64],
+    counts: &[u16],
+    tallies: &[u16],
+    ranks: &[u64],
+    output: &mut [u64],
+) -> Answer {
+    lent(slots, counts, tallies)
+        .and_then(|(slots, counts, tallies)| {
+            let sheet = checked(slots, counts, tallies)?;
+            board_of(&list(&sheet, slots, counts), ranks, output)
+        })
+        .into()
 }
 
 /// Place of a rank, by its tied group (02, F-3, F-11).

@@ -1,8 +1,9 @@
 //! The packed finishing sheet: a second implementation, to compare the proved
 //! one with. The law is the paper `01-scope.md`, cited here as "01", with the
 //! requests F-1 (timed sheets), F-2 (the leaf rule), F-3 (dead heats), F-5 (the
-//! order of the counts) and F-11 (retired boats) of `02-change-requests.md`, cited
-//! as "02"; every rule is written as its sentence reads, not in a shortened form.
+//! order of the counts), F-9 (the notice board) and F-11 (retired boats) of
+//! `02-change-requests.md`, cited as "02"; every rule is written as its sentence
+//! reads, not in a shortened form.
 //!
 //! - [`coins`]: draws, from a tape of words or from given faces
 //! - [`sizes`]: what the size parameter M and the length N decide
@@ -11,8 +12,9 @@
 //!   check
 //! - [`rules`]: the draws of insert and delete, and the counts they lead to
 //! - [`places`]: tied groups, their places and points, and retired boats
-//! - [`calls`]: the six calls on lent slices, with causes 1 to 7
-//! - [`timed`]: the seven calls of a timed sheet, with causes 10 and 11
+//! - [`calls`]: the seven calls on lent slices, with causes 1 to 7 and 16
+//! - [`timed`]: the eight calls of a timed sheet, with causes 10 and 11
+//! - [`board`]: a board of a list, for both kinds of sheet
 //! - [`conversions`]: counts from number order to tree order and back
 //! - [`frames`]: the lines of the program, with causes 8 and 9
 //! - [`shares`]: histories, their courses and exact tables of shares
@@ -22,6 +24,7 @@
 
 #![forbid(unsafe_code)]
 
+pub mod board;
 pub mod calls;
 pub mod coins;
 pub mod conversions;

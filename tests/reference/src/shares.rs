@@ -161,7 +161,7 @@ pub fn every_course<T>(mut act: impl FnMut(&mut Course) -> T) -> Vec<(T, Share)>
     }
 }
 
-/// One of the six calls, with its arguments, tapes apart.
+/// One of the seven calls, with its arguments, tapes apart.
 #[derive(Clone, Copy, Debug, PartialEq, Eq)]
 pub enum Call {
     Clear,
@@ -175,6 +175,10 @@ pub enum Call {
     Read {
         first: usize,
         last: usize,
+        output: usize,
+    },
+    Board {
+        ranks: &'static [u64],
         output: usize,
     },
     Place {
@@ -223,6 +227,10 @@ impl Store {
             } => {
                 let output = &mut vec![0; output];
                 answered(calls::read(slots, counts, tallies, first, last, output))
+            }
+            Call::Board { ranks, output } => {
+                let output = &mut vec![0; output];
+                answered(calls::board(slots, counts, tallies, ranks, output))
             }
             Call::Place { rank } => answered(calls::place(slots, counts, tallies, rank)),
             Call::Check => answered(calls::check(slots, counts, tallies)),

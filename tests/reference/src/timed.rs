@@ -1,7 +1,8 @@
-//! Timed sheets (02, F-1, F-3, F-11): a sheet whose entries rise strictly, with a third
-//! slice that holds the balance entries as they stand. Rules, layout and coins are
-//! those of a plain sheet: each call here rests on that of [`calls`].
+//! Timed sheets (02, F-1, F-3, F-9, F-11): a sheet whose entries rise strictly, with
+//! a third slice that holds the balance entries as they stand. Rules, layout and
+//! coins are those of a plain sheet: each call here rests on that of [`calls`].
 
+use crate::board::board_of;
 use crate::calls::{self, list, Answer, Cause};
 use crate::coins::{Source, Tape};
 use crate::layout::{Counts, Node, Sheet, Slots, Tallies};
@@ -87,6 +88,20 @@ pub fn read(
 ) -> Answer {
     open(slots, counts, tallies, balance)
         .and_then(|t| calls::read_sheet(&t.sheet, t.slots, t.counts, first, last, output))
+        .into()
+}
+
+/// The notice board: reads `ranks` into the front of `output`.
+pub fn board(
+    slots: &[u64],
+    counts: &[u16],
+    tallies: &[u16],
+    balance: &[u64],
+    ranks: &[u64],
+    output: &mut [u64],
+) -> Answer {
+    open(slots, counts, tallies, balance)
+        .and_then(|t| board_of(&list(&t.sheet, t.slots, t.counts), ranks, output))
         .into()
 }
 

@@ -8,7 +8,7 @@ use crate::shares::{self, after_step, every_course, table_of, without_last_zeros
 use crate::shares::{Share, SheetKey};
 use crate::timed::{self, Balance, BALANCE};
 
-/// One of the seven calls of a timed sheet, with its arguments, tapes apart.
+/// One of the eight calls of a timed sheet, with its arguments, tapes apart.
 #[derive(Clone, Copy, Debug, PartialEq, Eq)]
 pub enum Call {
     Clear,
@@ -24,6 +24,10 @@ pub enum Call {
     Read {
         first: usize,
         last: usize,
+        output: usize,
+    },
+    Board {
+        ranks: &'static [u64],
         output: usize,
     },
     Place {
@@ -73,6 +77,11 @@ impl Store {
             } => {
                 let output = &mut vec![0; output];
                 let answer = timed::read(slots, counts, tallies, balance, first, last, output);
+                answered(answer)
+            }
+            Call::Board { ranks, output } => {
+                let output = &mut vec![0; output];
+                let answer = timed::board(slots, counts, tallies, balance, ranks, output);
                 answered(answer)
             }
             Call::Place { rank } => answered(timed::place(slots, counts, tallies, balance, rank)),

@@ -1,5 +1,5 @@
 //! Causes 1 to 7 (01, "Causes and numbers"): each by itself, their order, and
-//! that a refused call changes nothing.
+//! that a refused call changes nothing. Boards stand in `board.rs`, but for 1 and 2.
 
 mod common;
 
@@ -11,7 +11,7 @@ use reference::random::SplitMix64;
 use reference::shares::Store;
 use reference::sizes::Size;
 
-/// What the six calls return on these slices with these arguments; only clear
+/// What the seven calls return on these slices with these arguments; only clear
 /// may change them, and it comes last.
 fn all_calls(
     slots: &mut [u64],
@@ -19,12 +19,13 @@ fn all_calls(
     tallies: &mut [u16],
     rank: usize,
     entry: u64,
-) -> [u8; 6] {
+) -> [u8; 7] {
     let mut output = [0x55; 2];
     let answers = [
         calls::insert(slots, counts, tallies, rank, entry, &[]),
         calls::delete(slots, counts, tallies, rank, &[]),
         calls::read(slots, counts, tallies, rank, rank + 5, &mut output),
+        calls::board(slots, counts, tallies, &[rank as u64, 0], &mut output),
         calls::place(slots, counts, tallies, rank),
         calls::check(slots, counts, tallies),
         calls::clear(slots, counts, tallies),
@@ -53,7 +54,8 @@ fn cause_1_lengths() {
         (0, 0, 0),
         (COUNTS, SLOTS, TALLIES),
     ] {
-        // Also not a sheet, entry zero, rank too large: cause 1 comes first.
+        // Also not a sheet, entry zero, rank too large, ranks that fall: cause 1 comes
+        // first.
         for value in [0, 7] {
             let (mut slots, mut counts, mut tallies) = slices(slots, counts, tallies);
             slots.fill(value);
@@ -61,7 +63,7 @@ fn cause_1_lengths() {
             tallies.fill(value as u16);
             let before = (slots.clone(), counts.clone(), tallies.clone());
             let numbers = all_calls(&mut slots, &mut counts, &mut tallies, 9, 0);
-            assert_eq!(numbers, [1; 6]);
+            assert_eq!(numbers, [1; 7]);
             assert_eq!((slots, counts, tallies), before);
         }
     }
@@ -73,7 +75,7 @@ fn cause_2_not_a_sheet() {
     slots[100] = 7;
     // Clear makes any contents the empty sheet.
     let numbers = all_calls(&mut slots, &mut counts, &mut tallies, 9, 0);
-    assert_eq!(numbers, [2, 2, 2, 2, 2, 0]);
+    assert_eq!(numbers, [2, 2, 2, 2, 2, 2, 0]);
     assert_eq!((slots, counts, tallies), full_lengths());
 }
 
@@ -206,6 +208,7 @@ fn numbers_of_the_causes() {
         Cause::TapeFull,
     ];
     assert_eq!(causes.map(Cause::number), [1, 2, 3, 4, 5, 6, 7, 8, 9]);
+    assert_eq!(Cause::Board.number(), 16);
 }
 
 /// Every store one change away from a sheet is judged as its layout says.
@@ -253,7 +256,7 @@ fn cause_2_by_the_leaf_rule_of_01() {
                 assert!(store == before, "N {n} M {m}");
                 let (slots, counts) = (&mut store.slots[..], &mut store.counts[..]);
                 let numbers = all_calls(slots, counts, &mut store.tallies[..], 0, 5);
-                assert_eq!(numbers, [2, 2, 2, 2, 2, 0]);
+                assert_eq!(numbers, [2, 2, 2, 2, 2, 2, 0]);
                 refused += 1;
             }
         }

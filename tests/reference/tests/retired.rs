@@ -264,7 +264,7 @@ fn tallies_without_retired_boats() {
     }
 }
 
-/// The six calls on a copy of the store, the seven on one with a third slice:
+/// The seven calls on a copy of the store, the eight on one with a third slice:
 /// all but clear meet cause 2 and change nothing.
 fn refuse(store: &TimedStore) {
     let refused = Answer::Refused(Cause::NotASheet);
@@ -274,19 +274,21 @@ fn refuse(store: &TimedStore) {
         insert(plain, 0, 5, &[0; 300]),
         delete(plain, 0, &[0; 300]),
         read(plain, 0, 0, &mut [0]),
+        board(plain, &[0], &mut [0]),
         place_of(plain, 0),
         check(plain),
     ];
-    assert_eq!(answers, [refused; 5]);
+    assert_eq!(answers, [refused; 6]);
     let answers = [
         timed_insert(&mut copy, 5, &[0; 300]),
         timed_delete(&mut copy, 0, &[0; 300]),
         timed_find(&copy, 5),
         timed_read(&copy, 0, 0, &mut [0]),
+        timed_board(&copy, &[0], &mut [0]),
         timed_place(&copy, 0),
         timed_check(&copy),
     ];
-    assert_eq!(answers, [refused; 6]);
+    assert_eq!(answers, [refused; 7]);
     assert!(copy == *store);
     assert_eq!(clear(&mut copy.plain), Answer::Cleared);
     assert!(copy.plain == Store::cleared());

@@ -17,6 +17,12 @@ const fn delete(rank: usize) -> Call {
     Call::Delete { rank }
 }
 
+/// A board whose output has a place for each rank.
+const fn board(ranks: &'static [u64]) -> Call {
+    let output = ranks.len();
+    Call::Board { ranks, output }
+}
+
 /// The table that the list alone decides: M even among N to 2N − 1, and each
 /// balance entry even among its candidates.
 fn table_of_list(list: &[u64]) -> Table {
@@ -98,7 +104,10 @@ fn short_histories_with_the_same_list() {
                 output: 1,
             },
             Call::Place { rank: 2 },
+            board(&[1, 0]),
+            board(&[0, 2]),
             insert(2, 3),
+            board(&[0, 2, 2]),
             Call::Read {
                 first: 0,
                 last: 2,

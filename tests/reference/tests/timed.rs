@@ -12,6 +12,9 @@ use reference::timed::{self, balance_entries, BALANCE};
 use reference::timed_shares::Store;
 
 const LENGTHS: [usize; 11] = [0, 1, 2, 5, 33, 40, 64, 65, 100, 700, 1024];
+/// What the eight calls return where all but clear meet the cause.
+const REFUSED_2: [u8; 8] = [2, 2, 2, 2, 2, 2, 2, 0];
+const REFUSED_11: [u8; 8] = [11, 11, 11, 11, 11, 11, 11, 0];
 
 /// The list 10, 20, …, 10 n.
 fn tens(n: usize) -> Vec<u64> {
@@ -31,21 +34,22 @@ fn third_slice(words: &[u64]) -> [u64; BALANCE] {
     balance
 }
 
-/// What the seven calls return on these slices with these arguments: insert,
-/// delete, find, read, place, check, clear. Only clear may change them.
+/// What the eight calls return on these slices with these arguments: insert,
+/// delete, find, read, board, place, check, clear. Only clear may change them.
 fn all_calls(
     (slots, counts, tallies, balance): (&mut [u64], &mut [u16], &mut [u16], &mut [u64]),
     rank: usize,
     entry: u64,
-) -> [u8; 7] {
+) -> [u8; 8] {
     let before = (slots.to_vec(), counts.to_vec());
     let then = (tallies.to_vec(), balance.to_vec());
-    let (last, mut output) = (rank + 5, [0x55; 2]);
+    let (last, ranks, mut output) = (rank + 5, [rank as u64, 0], [0x55; 2]);
     let answers = [
         timed::insert(slots, counts, tallies, balance, entry, &[]),
         timed::delete(slots, counts, tallies, balance, rank, &[]),
         timed::find(slots, counts, tallies, balance, entry),
         timed::read(slots, counts, tallies, balance, rank, last, &mut output),
+        timed::board(slots, counts, tallies, balance, &ranks, &mut output),
         timed::place(slots, counts, tallies, balance, rank),
         timed::check(slots, counts, tallies, balance),
     ];
@@ -56,12 +60,12 @@ fn all_calls(
     for answer in answers.into_iter().chain([clear]) {
         assert!(answer.number() == 0 || answer.values() == [0, 0, 0]);
     }
-    let [a, b, c, d, e, f] = answers.map(Answer::number);
-    [a, b, c, d, e, f, clear.number()]
+    let [a, b, c, d, e, f, g] = answers.map(Answer::number);
+    [a, b, c, d, e, f, g, clear.number()]
 }
 
 /// The same on a copy of a store, with rank 0 and entry 5.
-fn on_store(store: &Store) -> [u8; 7] {
+fn on_store(store: &Store) -> [u8; 8] {
     let mut store = store.clone();
     let numbers = all_calls(slices_of(&mut store), 0, 5);
     assert!(store == Store::cleared());
@@ -233,8 +237,8 @@ fn inserts_in_any_order() {
     }
 }
 
-/// Cause 1 comes first: the contents are no sheet, the entry is zero and the
-/// rank too large as well.
+/// Cause 1 comes first: the contents are no sheet, the entry is zero, the rank too
+/// large, and the ranks of the board fall as well.
 #[test]
 fn cause_1_lengths() {
     let sizes = [
@@ -269,7 +273,7 @@ fn cause_1_lengths() {
                 &mut tallies[..],
                 &mut balance[..],
             );
-            assert_eq!(all_calls(slices, 9, 0), [1; 7]);
+            assert_eq!(all_calls(slices, 9, 0), [1; 8]);
             assert!((slots, counts, tallies, balance) == before);
         }
     }
@@ -280,17 +284,17 @@ fn cause_1_lengths() {
 fn cause_2_before_11() {
     let mut store = sheet_of_34();
     store.plain.counts[255] = 1;
-    assert_eq!(on_store(&store), [2, 2, 2, 2, 2, 2, 0]);
+    assert_eq!(on_store(&store), REFUSED_2);
     store.balance.fill(3);
-    assert_eq!(on_store(&store), [2, 2, 2, 2, 2, 2, 0]);
+    assert_eq!(on_store(&store), REFUSED_2);
     store.plain.counts[255] = 0;
-    assert_eq!(on_store(&store), [11, 11, 11, 11, 11, 11, 0]);
+    assert_eq!(on_store(&store), REFUSED_11);
     store.plain.tallies[255] = 1;
-    assert_eq!(on_store(&store), [2, 2, 2, 2, 2, 2, 0]);
+    assert_eq!(on_store(&store), REFUSED_2);
     // The entries fall, and one stands in a gap.
     let mut store = with_third_slice(lay_out(&[3, 2, 1], 5, |_, _, _| 0));
     store.plain.slots[1] = 9;
-    assert_eq!(on_store(&store), [2, 2, 2, 2, 2, 2, 0]);
+    assert_eq!(on_store(&store), REFUSED_2);
 }
 
 /// A plain sheet that falls or has equal neighbours anywhere, with the third slice
@@ -311,7 +315,7 @@ fn cause_11_where_the_sheet_does_not_rise() {
                 let refused = Answer::Refused(Cause::NotTimed);
                 assert_eq!(timed_check(&store), refused, "N {n} rank {rank}");
                 if random.below(50) == 0 {
-                    assert_eq!(on_store(&store), [11, 11, 11, 11, 11, 11, 0]);
+                    assert_eq!(on_store(&store), REFUSED_11);
                 }
             }
         }
@@ -338,17 +342,18 @@ fn cause_11_where_the_third_slice_is_wrong() {
         }
         let mut store = sound.clone();
         store.balance[random.below(BALANCE)] ^= 1 << random.below(64);
-        assert_eq!(on_store(&store), [11, 11, 11, 11, 11, 11, 0]);
+        assert_eq!(on_store(&store), REFUSED_11);
     }
 }
 
-/// Also before 4, 6 and 7: the entry is zero, the rank too large, no tape is there.
+/// Also before 16, 4, 6 and 7: the entry is zero, the rank too large, the ranks of the
+/// board fall, no tape is there.
 #[test]
 fn cause_11_before_3() {
     let mut store = sheet_of_34();
     store.balance[0] = 1;
     let numbers = all_calls(slices_of(&mut store), 99, 0);
-    assert_eq!(numbers, [11, 11, 11, 11, 11, 11, 0]);
+    assert_eq!(numbers, REFUSED_11);
 }
 
 /// Entry zero is never there, so that 3 and 10 cannot both hold; it gives 3 also
@@ -449,6 +454,6 @@ fn clear_empties_all_slices() {
     store.plain.counts.fill(u16::MAX);
     store.plain.tallies.fill(u16::MAX);
     store.balance.fill(u64::MAX);
-    assert_eq!(on_store(&store), [2, 2, 2, 2, 2, 2, 0]);
+    assert_eq!(on_store(&store), REFUSED_2);
     assert_eq!(timed_check(&Store::cleared()), Answer::Checked { n: 0 });
 }

@@ -547,6 +547,11 @@ pub fn read(store: &Store, first: usize, last: usize, output: &mut [u64]) -> Ans
     calls::read(slots, counts, &store.tallies[..], first, last, output)
 }
 
+pub fn board(store: &Store, ranks: &[u64], output: &mut [u64]) -> Answer {
+    let (slots, counts) = (&store.slots[..], &store.counts[..]);
+    calls::board(slots, counts, &store.tallies[..], ranks, output)
+}
+
 pub fn check(store: &Store) -> Answer {
     calls::check(&store.slots[..], &store.counts[..], &store.tallies[..])
 }
@@ -607,6 +612,11 @@ pub fn timed_find(store: &TimedStore, entry: u64) -> Answer {
 pub fn timed_read(store: &TimedStore, first: usize, last: usize, output: &mut [u64]) -> Answer {
     let (slots, counts, tallies, balance) = timed_slices(store);
     timed::read(slots, counts, tallies, balance, first, last, output)
+}
+
+pub fn timed_board(store: &TimedStore, ranks: &[u64], output: &mut [u64]) -> Answer {
+    let (slots, counts, tallies, balance) = timed_slices(store);
+    timed::board(slots, counts, tallies, balance, ranks, output)
 }
 
 pub fn timed_place(store: &TimedStore, rank: usize) -> Answer {
