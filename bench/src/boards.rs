@@ -1,7 +1,7 @@
 //! The table of boards: up to 64 random ranks together, and the same ranks read
 //! one by one, of the proved library. Before the measuring boards are compared with
-//! single reads and with `tests/reference`, and in each measurement both give the same
-//! entries.
+//! single reads and with `tests/reference`, and in each measurement the last board has
+//! the entries of single reads.
 
 use crate::sides::{returned, Proved, Returned, Side, Store};
 use crate::{accepted, build, median, time_of, Arguments, LENGTHS, STORES};

@@ -7,8 +7,8 @@ use native.Mathlib.Omega.{arith}
 use lib.ListN.{length, drop}
 use Rattle.store_layout.specs.Decode.{Contents}
 use Rattle.call_outcomes.specs.declared.Cause.{Cause}
-use Rattle.call_outcomes.specs.declared.Answer.the-variants.{Changed}
-use Rattle.call_outcomes.specs.Kind.{SheetOf, applied, change, ask, Kind, Lawful, StoreFor}
+use Rattle.call_outcomes.specs.declared.Answer.the-variants.{Changed, Refused}
+use Rattle.call_outcomes.specs.Kind.{SheetOf, applied, change, ask, Kind, Lawful, CallFor, StoreFor}
 use Rattle.call_outcomes.specs.Causes.{accept, lookedAt, argumentCause, decision}
 use Rattle.call_outcomes.specs.Outcome.{listAfter, outcome}
 use Rattle.call_outcomes.specs.DecisionLaws.{store-decided, accepted-by, question-outcome}
@@ -38,17 +38,20 @@ module _ (kind : Kind) (lawful : Lawful kind) (list : List ℕ) (store : StoreFo
       → outcome kind (ask q) tape store output .answer ≡ kind .calls .reply q list
   answered-by q free tape output = rw (question-by q free tape output)
 
-  -- A change that is made is refused by no cause of its arguments, and leaves a sheet of the changed list.
+  -- A call whose answer is no refusal is refused by no cause of its arguments.
+  pub not-refused : (call : CallFor kind) (tape output : List ℕ) → ((cause : Cause) → outcome kind call tape store output .answer ≡ Refused cause → ⊥)
+      → argumentCause kind call list ≡ none
+  not-refused call tape output answered = go (argumentCause kind call list) refl
+    where
+      go : (found : Option Cause) → argumentCause kind call list ≡ found → found ≡ none
+      go none e = refl
+      go (some cause) e = absurd (answered cause (refused-by kind lawful list store w call cause e tape output))
+
+  -- So is a change that is made, and it leaves a sheet of the changed list.
   module _ (c : kind .calls .ChangeCall) (tape output : List ℕ) (n words : ℕ) (made : outcome kind (change c) tape store output .answer ≡ Changed n words) where
     pub made-free : kind .calls .changeCause c list ≡ none
     unfolding argumentCause
-    made-free = go (kind .calls .changeCause c list) refl
-      where
-        go : (found : Option Cause) → kind .calls .changeCause c list ≡ found → found ≡ none
-        go none e = refl
-        go (some cause) e =
-            let no = refused-by kind lawful list store w (change c) cause e tape output in
-            let z : _≡_ {A = ℕ} 0 1 = cc in absurd (omega arith)
+    made-free = not-refused (change c) tape output (λ cause refusal. let z : _≡_ {A = ℕ} 0 1 = cc in omega arith)
 
     pub changed-by : SheetOf (kind .view) (applied (kind .calls .edit c list) list) (outcome kind (change c) tape store output .store)
     unfolding nextList listAfter argumentCause

@@ -23,7 +23,7 @@ board-reply found ranks list output {n} is all =
     let within = board-within ranks (length output) n (found-free _ _ is) in
     rw (is, board-written ranks (length output) list (rw all at (within .inside)), length-map ranks (λ rank. getD list rank 0))
 
--- No rank writes nothing.
+-- Without ranks nothing is written.
 pub no-ranks : (ranks list output : List ℕ) → length ranks ≡ 0 → output ≡ entriesAt list ranks ++ drop (length ranks) output
 no-ranks [] list output none = refl
 no-ranks (rank ∷ ranks) list output none = absurd (omega arith)

@@ -1,6 +1,6 @@
 -- A board of ranks is answered as the reads of its ranks, each by itself (document 02, F-9), for every kind of sheet that answers the questions
 -- about plain sheets.
-use mathlib.Core.Path.{_≡_, refl, _∙_}
+use mathlib.Core.Path.{_≡_, refl, sym, _∙_}
 use mathlib.Core.Bool.{true, false, or-true}
 use mathlib.Core.Logic.{_⊎_, ⊎-elim, _↔_}
 use mathlib.Core.List.{List, [], _∷_, _++_}
@@ -25,7 +25,7 @@ use Rattle.call_outcomes.specs.PlainCalls.{Question, readRanks, boardOf, questi
 use Rattle.call_outcomes.specs.PlainCallLaws.{board-within, board-written}
 use Rattle.call_outcomes.specs.DecisionLaws.{outcome-refused, question-outcome}
 use Rattle.call_history.specs.Refusals.{refused-by}
-use Rattle.call_history.specs.SingleCalls.{question-by}
+use Rattle.call_history.specs.SingleCalls.{question-by, not-refused}
 use Rattle.call_readings.specs.ReadingLaws.{read-made}
 
 module _ (kind : Kind) (lawful : Lawful kind) (asks : Question → kind .calls .Question) (plainly : (q : Question) → AsPlain kind (asks q) q) where
@@ -161,13 +161,10 @@ module _ (kind : Kind) (lawful : Lawful kind) (asks : Question → kind .calls .
 
       module _ (n : ℕ) (accepted : board store ranks tape output .answer ≡ Entries n) where
         free : causeOf ≡ none
-        free = go causeOf refl
-          where
-            go : (found : Option Cause) → causeOf ≡ found → found ≡ none
-            go none e = refl
-            go (some cause) e =
-                let refusal = refused-for cause e in
-                let z : _≡_ {A = ℕ} 0 1 = cc in absurd (omega arith)
+        unfolding argumentCause
+        free =
+            sym (plainly _ .causes list)
+            ∙ not-refused kind lawful list store w (ask (asks (boardOf ranks (length output)))) tape output (λ cause refusal. let z : _≡_ {A = ℕ} 0 1 = cc in omega arith)
 
         -- Entry k of the output is what the read of rank k alone puts there.
         pub board-entry : (k : ℕ) → k < length ranks → (tape′ : List ℕ) (x : ℕ)

@@ -13,7 +13,7 @@ use Rattle.call_timed.specs.Timed.{TimedStore, timed}
 abbrev pub rankCount : ℕ → ℕ → ℕ
 rankCount first last = last - first + 1
 
--- A read of the rankCount first to last that is lent this output: of a plain sheet, and of a timed one.
+-- A read of the ranks first to last that is lent this output: of a plain sheet, and of a timed one.
 abbrev pub plainReading : (cap : Capacity) (store : PlainStore) (first last : ℕ) (tape output : List ℕ) → Outcome PlainStore
 plainReading cap store first last tape output = outcome (plain cap) (read first last (length output)) tape store output
 

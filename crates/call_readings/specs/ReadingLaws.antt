@@ -44,7 +44,7 @@ written-joined list first mid last room room₁ room₂ before behind =
 
 module _ (kind : Kind) (lawful : Lawful kind) (asks : Question → kind .calls .Question) (plainly : (q : Question) → AsPlain kind (asks q) q)
     (list : List ℕ) (store : StoreFor kind) (w : SheetOf (kind .view) list store) where
-  -- A read of the rankCount first to last that is lent this output.
+  -- A read of the ranks first to last that is lent this output.
   abbrev pub read : (first last : ℕ) → (tape output : List ℕ) → Outcome (StoreFor kind)
   read first last tape output = outcome kind (ask (asks (readRanks first last (length output)))) tape store output
 
