@@ -28,8 +28,11 @@ handedBy values o answer = record {
   answer = filled values (returned (o .answer)) answer;
 }
 
--- The call, which hands over so many values, where the answer slice has room for them; otherwise the number 255, and nothing changes.
-unfoldable pub handed : (kind : Kind) → ℕ → CallFor kind → List ℕ → StoreFor kind → List ℕ → List ℕ → Handed (StoreFor kind)
-handed kind values call tape store output answer =
-    ifLt (length answer) values (record { number = 255; store = store; output = output; answer = answer })
-    (handedBy values (outcome kind call tape store output) answer)
+-- The outcome, where the answer slice has room for its values; otherwise the number 255, and store and output stay as they were.
+unfoldable pub handedOver : {S : Type 0} → ℕ → Outcome S → S → List ℕ → List ℕ → Handed S
+handedOver values o store output answer =
+    ifLt (length answer) values (record { number = 255; store = store; output = output; answer = answer }) (handedBy values o answer)
+
+-- The call, which hands over so many values.
+abbrev pub handed : (kind : Kind) → ℕ → CallFor kind → List ℕ → StoreFor kind → List ℕ → List ℕ → Handed (StoreFor kind)
+handed kind values call tape store output answer = handedOver values (outcome kind call tape store output) store output answer

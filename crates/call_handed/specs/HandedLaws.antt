@@ -1,4 +1,4 @@
--- The values in an answer slice, and when a call is handed over.
+-- The values in an answer slice, and when an outcome is handed over.
 use mathlib.Core.Path.{_≡_, refl, sym}
 use mathlib.Core.List.{List, [], _∷_}
 use Prim.Native.Nat.{ℕ, _≤_, _<_}
@@ -8,9 +8,8 @@ use Rattle.base.specs.CaseLaws.{ifLt-yes, ifLt-no}
 use Rattle.call_outcomes.specs.declared.Returned.{Returned}
 use Rattle.call_outcomes.specs.declared.Answer.{Answer}
 use Rattle.call_outcomes.specs.Returns.{returned}
-use Rattle.call_outcomes.specs.Kind.{Kind, CallFor, StoreFor}
-use Rattle.call_outcomes.specs.Outcome.{outcome}
-use Rattle.call_handed.specs.Handed.{filled, handedBy, handed}
+use Rattle.call_outcomes.specs.Outcome.{Outcome}
+use Rattle.call_handed.specs.Handed.{filled, handedBy, handedOver}
 
 -- ---- the values in the answer slice
 
@@ -31,20 +30,19 @@ module _ (back : Returned) where
   filled-three (x ∷ y ∷ []) l = absurd (omega arith)
   filled-three (x ∷ y ∷ z ∷ rest) l = refl
 
--- ---- the call
+-- ---- the outcome
 
-module _ (kind : Kind) (values : ℕ) (call : CallFor kind) (tape : List ℕ) (store : StoreFor kind) (output answer : List ℕ) where
+module _ {S : Type 0} (values : ℕ) (o : Outcome S) (store : S) (output answer : List ℕ) where
   -- an answer slice that is too short
   pub handed-short : length answer < values
-      → record { number = 255; store = store; output = output; answer = answer } ≡ handed kind values call tape store output answer
-  unfolding handed
+      → record { number = 255; store = store; output = output; answer = answer } ≡ handedOver values o store output answer
+  unfolding handedOver
   handed-short l = sym (ifLt-yes (length answer) values _ _ l)
 
   -- an answer slice with room
-  pub handed-done : {given : Answer} {store′ : StoreFor kind} {output′ : List ℕ} {back : Returned} {r : ℕ} {answer′ : List ℕ} → values ≤ length answer
-      → record { answer = given; store = store′; output = output′ } ≡ outcome kind call tape store output
+  pub handed-done : {given : Answer} {store′ : S} {output′ : List ℕ} {back : Returned} {r : ℕ} {answer′ : List ℕ} → values ≤ length answer
+      → record { answer = given; store = store′; output = output′ } ≡ o
       → back ≡ returned given → (r ≡ back .number) × (answer′ ≡ filled values back answer)
-      → record { number = r; store = store′; output = output′; answer = answer′ } ≡ handed kind values call tape store output answer
-  unfolding handed handedBy
-  handed-done l o b h =
-      rw (h .0, h .1, ifLt-no (length answer) values _ (handedBy values (outcome kind call tape store output) answer) l, ← o, b)
+      → record { number = r; store = store′; output = output′; answer = answer′ } ≡ handedOver values o store output answer
+  unfolding handedOver handedBy
+  handed-done l is b h = rw (h .0, h .1, ifLt-no (length answer) values _ (handedBy values o answer) l, ← is, b)

@@ -19,6 +19,7 @@ use Rattle.call_outcomes.specs.Outcome.{effect, answerOf, refused, finis
 -- The number of a cause is not 0, and fits a byte.
 pub cause-bounds : (c : Cause) → (0 < causeNumber c) × (causeNumber c < 2 ^ 8)
 cause-bounds cause.Lengths = (omega arith, omega arith)
+cause-bounds cause.NotMendable = (omega arith, omega arith)
 cause-bounds cause.NotASheet = (omega arith, omega arith)
 cause-bounds cause.NotTimed = (omega arith, omega arith)
 cause-bounds cause.BoardRanks = (omega arith, omega arith)
@@ -41,6 +42,7 @@ number-fits (answer.Checked n) = omega arith
 number-fits (answer.Present rank) = omega arith
 number-fits (answer.Absent rank) = omega arith
 number-fits (answer.Converted m) = omega arith
+number-fits (answer.Mended n) = omega arith
 number-fits (answer.Refused c) = cause-bounds c .1
 
 -- A call that returns 0 was accepted.

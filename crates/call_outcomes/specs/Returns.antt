@@ -1,4 +1,4 @@
--- The numbers and values that an answer returns (document 01, "Causes and numbers"; document 02, F-1, F-3 and F-9). Definitions only.
+-- The numbers and values that an answer returns (document 01, "Causes and numbers"; document 02, F-1, F-3, F-9 and F-13). Definitions only.
 use Prim.Native.Nat.{ℕ}
 use Rattle.call_outcomes.specs.declared.Cause.{Cause}
 use Rattle.call_outcomes.specs.declared.Cause.the-variants as cause
@@ -9,6 +9,7 @@ use Rattle.call_outcomes.specs.declared.Answer.the-variants as answer
 -- The number of a cause.
 abbrev pub causeNumber : Cause → ℕ
 causeNumber cause.Lengths = 1
+causeNumber cause.NotMendable = 18
 causeNumber cause.NotASheet = 2
 causeNumber cause.NotTimed = 11
 causeNumber cause.BoardRanks = 16
@@ -31,4 +32,5 @@ returned (answer.Checked n) = record { number = 0; first = n; second = 0; third 
 returned (answer.Present rank) = record { number = 0; first = 1; second = rank; third = 0 }
 returned (answer.Absent rank) = record { number = 0; first = 0; second = rank; third = 0 }
 returned (answer.Converted m) = record { number = 0; first = m; second = 0; third = 0 }
+returned (answer.Mended n) = record { number = 0; first = n; second = 0; third = 0 }
 returned (answer.Refused cause) = record { number = causeNumber cause; first = 0; second = 0; third = 0 }

@@ -5,6 +5,7 @@ ghost use Rattle.call_outcomes.specs.Returns as returns;
 // Why a call or a line is refused, in the order in which the causes decide.
 pub enum Cause {
     Lengths,
+    NotMendable,
     NotASheet,
     NotTimed,
     BoardRanks,
@@ -45,6 +46,9 @@ pub enum Answer {
     Converted {
         m: usize,
     },
+    Mended {
+        n: usize,
+    },
     Refused(Cause),
 }
 
@@ -55,6 +59,7 @@ impl Cause {
     {
         match self {
             Cause::Lengths => 1,
+            Cause::NotMendable => 18,
             Cause::NotASheet => 2,
             Cause::NotTimed => 11,
             Cause::BoardRanks => 16,
@@ -104,6 +109,7 @@ impl Answer {
             Answer::Present { rank } => accepted(1, rank, 0),
             Answer::Absent { rank } => accepted(0, rank, 0),
             Answer::Converted { m } => accepted(m, 0, 0),
+            Answer::Mended { n } => accepted(n, 0, 0),
             Answer::Refused(cause) => {
                 let number = cause.number();
                 Returned {

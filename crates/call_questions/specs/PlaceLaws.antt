@@ -13,6 +13,7 @@ use Rattle.store_layout.specs.Room.{CapacityReady}
 use Rattle.store_slices.specs.Reading.{EntrySlot}
 use Rattle.store_scoring.specs.Scoring.{tally}
 use Rattle.store_scoring.specs.ScoringLaws.{tally-append}
+use Rattle.store_sums.specs.Numbers.{numberBefore}
 use Rattle.store_tallies.specs.TalliesIn.{tallyBefore}
 use Rattle.store_rank.specs.declared.Start.{Start}
 use Rattle.store_rank.specs.LeafOf.{leafOf, startOf}
@@ -42,7 +43,7 @@ module _ (m : ℕ) (work : List ℕ) (rank : ℕ) {start : Start} (is : start �
 
   -- The scoring entries before the leaf are those in the slots before its first.
   leaf-before : (slots : List ℕ) → tallyBefore m slots 0 (start .leaf) ≡ tally (entriesBefore slots (start .slot))
-  unfolding startOf tallyBefore
+  unfolding startOf numberBefore
   leaf-before slots =
       let leaf = leafOf (height m) work 1 rank .leaf in
       let one : leaf * 2 ^ 0 - 2 ^ height m ≡ leaf - 2 ^ height m = omega arith in

@@ -31,7 +31,7 @@ use Rattle.store_tallies.specs.Tallies.{rangeTallies, layTallies}
 use Rattle.store_tallies.specs.TalliesIn.{TalliesBut, TalliesIn}
 use Rattle.store_tallies.specs.LayLaws.{length-rangeTallies, numbered-tallies, rangeTallies-holds}
 use Rattle.store_tallies.specs.LaidLaws.{tallies-laid, leaves-counted}
-use Rattle.store_tallies.specs.KeptLaws.{tallies-kept, tallies-none}
+use Rattle.store_sums.specs.KeptLaws.{numbers-kept, numbers-none}
 use Rattle.store_tallies.specs.NoneLaws.{none-tallies}
 use Rattle.store_part.specs.Region.{leavesOf, leavesBefore}
 use Rattle.store_part.specs.Plan.{partFrom, partLength, PartIn}
@@ -130,7 +130,7 @@ module _ {M : ℕ} {part : Part} (w : PartIn M part) where
       → drop (partFrom M part + partLength M part) slots ≡ drop (partFrom M part + partLength M part) slots′ → TalliesIn M slots words
       → TalliesBut M slots′ (part .range * leavesOf M (part .depth)) (part .range * leavesOf M (part .depth) + leavesOf M (part .depth)) words
   kept-tallies {slots} {slots′} {words} before behind found =
-      tallies-kept M slots slots′ (part .range * leavesOf M (part .depth)) (part .range * leavesOf M (part .depth) + leavesOf M (part .depth)) words
+      numbers-kept tally 0 M slots slots′ (part .range * leavesOf M (part .depth)) (part .range * leavesOf M (part .depth) + leavesOf M (part .depth)) words
       (rw first-slot before) (rw end-slot behind) found
 
 depth-zero : (d : ℕ) → 2 ^ d ≤ 1 → d ≡ 0
@@ -154,6 +154,6 @@ module _ {M : ℕ} {part : Part} {sl tallies : List ℕ} (w : PartReady M part s
       let first : 1 * 2 ^ height M ≡ 2 ^ height M = omega arith in
       let end : 2 ^ height M + 2 ^ height M ≡ 2 * 2 ^ height M = omega arith in
       rw (s .whole one, leaves, one, first, end)
-      (tallies-none M sl (replicate room 0) (replicate-at 0 room 0) (λ k h. replicate-at 0 room k)))
+      (numbers-none tally 0 M sl (replicate room 0) (replicate-at 0 room 0) (λ k h. replicate-at 0 room k)))
       (λ (other : part .range ≢ 1). rw (s .other other) (w .kept other))
       (eq-or-ne (part .range) 1)

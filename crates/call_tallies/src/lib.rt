@@ -35,6 +35,33 @@ fn put_updated(
     store_counts::write_counts(size, numbers, tallies);
 }
 
+// Makes the tallies, in the order of the counts, those that the slots give, whatever they were. They are worked out in `numbers`, by range number as
+// the counts are given.
+pub fn fresh_tallies(
+    size: Size,
+    slots: &[u64],
+    counts: &[u32],
+    numbers: &mut [u32],
+    tallies: &mut [u16],
+)
+    requires ready { ⌜ TalliesReady (size .m) (now slots) (length (now tallies)) ⌝ }
+    requires counted { ⌜ CountsReady (size .m) (now slots) (now counts) ⌝ }
+    requires numbers { ⌜ now numbers ≡ replicate (length (now tallies)) 0 ⌝ }
+    ensures { λ _. ⌜ ((words : List ℕ) → TalliesIn (size .m) (now (slots .entry)) words → length words ≡ length (now (tallies .entry))
+        → now (tallies .exit) ≡ countOrder (height (size .m)) words) ⌝ }
+{
+    let leaves = power(size.height());
+    put_updated(
+        size,
+        slots,
+        counts,
+        leaves,
+        2 * leaves - 1,
+        numbers,
+        tallies,
+    );
+}
+
 // The tallies are those that the slots give. These are worked out in `numbers`, by range number as the counts are given, and put into their order
 // in `right`.
 pub fn are_tallies(
@@ -52,8 +79,7 @@ pub fn are_tallies(
     ensures { λ r. ⌜ ((words : List ℕ) → TalliesIn (size .m) (now (slots .entry)) words → length words ≡ length (now (tallies .entry))
         → r ≡ equalLists (now (tallies .entry)) (countOrder (height (size .m)) words)) ⌝ }
 {
-    let leaves = power(size.height());
-    put_updated(size, slots, counts, leaves, 2 * leaves - 1, numbers, right);
+    fresh_tallies(size, slots, counts, numbers, right);
     store_tally_copies::same_numbers(tallies, right)
 }
 

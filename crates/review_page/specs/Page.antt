@@ -1,7 +1,7 @@
 -- The reviewer's page: what is claimed of the clubs' sheets, a sentence and a theorem each. The definitions that the statements name stand in
--- store_order (TreeOrder), store_board (Board), store_scoring (Scoring), store_tallies (Tallies, TalliesIn, HoldsTallies), store_ties (Groups, Ties), store_keys (Key),
+-- store_order (TreeOrder), store_board (Board), store_scoring (Scoring), store_sums (Range), store_tallies (Tallies, HoldsTallies), store_ties (Groups, Ties), store_keys (Key),
 -- call_outcomes (Kind, Causes, Outcome, PlainCalls, Untallied, Slice, Plain, Clubs), call_timed (Timed), call_orders (Conversion, NumberOrder,
--- Converts), call_history (History, TapeRuns), call_corrections (Accepted), call_readings (Reading), frame_sessions (Session) and frame_chunks (Chunk, Input).
+-- Converts), call_history (History, TapeRuns), call_corrections (Accepted), call_readings (Reading), call_mend (Mending, Views), frame_sessions (Session) and frame_chunks (Chunk, Input).
 use mathlib.Core.Path.{_≡_, refl}
 use mathlib.Core.Bool.{Bool, true, false}
 use mathlib.Core.Logic.{_≢_, _↔_, _⊎_}
@@ -29,8 +29,8 @@ use Rattle.store_order.specs.Copied.{up}
 use Rattle.store_layout.specs.Layout.{Store, layOut}
 use Rattle.store_layout.specs.Sheet.{IsContents}
 use Rattle.call_outcomes.specs.declared.Cause.{Cause}
-use Rattle.call_outcomes.specs.declared.Cause.the-variants.{NotASheet, NotTimed, BoardRanks, EntryPresent, Rank, OutputShort, TapeEnded}
-use Rattle.call_outcomes.specs.declared.Answer.the-variants.{Checked, Changed, Entries, Present, Converted, Refused}
+use Rattle.call_outcomes.specs.declared.Cause.the-variants.{NotMendable, NotASheet, NotTimed, BoardRanks, EntryPresent, Rank, OutputShort, TapeEnded}
+use Rattle.call_outcomes.specs.declared.Answer.the-variants.{Checked, Changed, Entries, Present, Converted, Mended, Refused}
 use Rattle.call_outcomes.specs.Causes.{argumentCause}
 use Rattle.call_outcomes.specs.Outcome.{outcome, callProgram}
 use Rattle.call_outcomes.specs.PlainCalls.{Call, insertAt, deleteAt, editOf, insert, delete, place, check, placed, changing}
@@ -59,7 +59,7 @@ use Rattle.call_history.specs.ClubSheets.{ClubSheet}
 use Rattle.store_layout.specs.EntryLaws as entries
 use Rattle.store_scoring.specs.Scoring.{retiredBit, tally, noneRetired}
 use Rattle.store_tallies.specs.Tallies.{rangeTallies}
-use Rattle.store_tallies.specs.TalliesIn.{IsRange}
+use Rattle.store_sums.specs.Range.{IsRange}
 use Rattle.store_tallies.specs.HoldsTallies.{entriesOf}
 use Rattle.store_tallies.specs.LayLaws as tallies
 use Rattle.store_tallies.specs.NoneLaws as none-retired-tallies
@@ -82,6 +82,9 @@ use Rattle.call_corrections.specs.TimedCorrections as timed-corrections
 use Rattle.call_readings.specs.Reading.{rankCount, plainReading, timedReading, plainBoard, timedBoard}
 use Rattle.call_readings.specs.ReadingLaws as readings
 use Rattle.call_readings.specs.BoardLaws as boards
+use Rattle.call_mend.specs.Mending.{Mendable, mended}
+use Rattle.call_mend.specs.Views.{plainStore, timedStore}
+use Rattle.call_mend.specs.MendingLaws as mending
 use Rattle.timed_history.specs.Clause as timed-clause
 use Rattle.timed_history.specs.Clause.{clubs-timed, timed-suppliable}
 use Rattle.timed_history.specs.TimedSheets as timed-sheets
@@ -602,6 +605,60 @@ timed-board-rank = boards.board-rank (timed clubs) clubs-timed asPlain (timed-as
 pub timed-board-untouched : (store : TimedStore) (ranks tape output : List ℕ) (cause : Cause)
     → timedBoard clubs store ranks tape output .answer ≡ Refused cause → timedBoard clubs store ranks tape output .output ≡ output
 timed-board-untouched = boards.board-untouched (timed clubs) clubs-timed asPlain (timed-as-plain (timedView clubs) 1024)
+
+-- ---- mending
+
+-- There is at most one sheet with the slots and the size parameter of a store.
+pub at-most-one : (store : PlainStore) (v w : Mendable (plainView clubs) (plainStore clubs) store)
+    → layPlain clubs (v .list) (v .shape) ≡ layPlain clubs (w .list) (w .shape)
+at-most-one = mending.at-most-one clubs-roomy (plainView clubs) (plainStore clubs)
+
+-- Mending puts it in, and returns N,
+pub mended-made : (store : PlainStore) → PlainLengths clubs store → (m : Mendable (plainView clubs) (plainStore clubs) store)
+    → mended (plainView clubs) (plainStore clubs) store
+    ≡ record { answer = Mended (length (m .list)); store = layPlain clubs (m .list) (m .shape); output = [] }
+mended-made store right =
+    mending.mended-made clubs-roomy (plainView clubs) (plainStore clubs) (clubs-lawful .view) store (plain-right clubs store right)
+
+-- is refused by cause 18 exactly when there is none,
+pub mended-refused : (store : PlainStore) → PlainLengths clubs store
+    → (mended (plainView clubs) (plainStore clubs) store .answer ≡ Refused NotMendable) ↔ (Mendable (plainView clubs) (plainStore clubs) store → ⊥)
+mended-refused store right =
+    mending.mended-refused clubs-roomy (plainView clubs) (plainStore clubs) (clubs-lawful .view) store (plain-right clubs store right)
+
+-- leaves a sheet of as many entries as it returns, of which all that is said of sheets holds,
+pub mended-sheet : (store : PlainStore) (n : ℕ) → mended (plainView clubs) (plainStore clubs) store .answer ≡ Mended n
+    → (list : List ℕ) × ClubSheet list (mended (plainView clubs) (plainStore clubs) store .store) × (length list ≡ n)
+mended-sheet = mending.mended-sheet clubs-roomy (plainView clubs) (plainStore clubs) (clubs-lawful .view)
+
+-- and lets a sheet through unaltered.
+pub sheet-unaltered : (store : PlainStore) (list : List ℕ) → ClubSheet list store
+    → mended (plainView clubs) (plainStore clubs) store ≡ record { answer = Mended (length list); store = store; output = [] }
+sheet-unaltered = mending.sheet-unaltered clubs-roomy (plainView clubs) (plainStore clubs) (clubs-lawful .view)
+
+-- The same of timed sheets.
+pub timed-at-most-one : (store : TimedStore) (v w : Mendable (timedView clubs) (timedStore clubs) store)
+    → layTimed clubs (v .list) (v .shape) ≡ layTimed clubs (w .list) (w .shape)
+timed-at-most-one = mending.at-most-one clubs-roomy (timedView clubs) (timedStore clubs)
+
+pub timed-mended-made : (store : TimedStore) → TimedLengths clubs store → (m : Mendable (timedView clubs) (timedStore clubs) store)
+    → mended (timedView clubs) (timedStore clubs) store
+    ≡ record { answer = Mended (length (m .list)); store = layTimed clubs (m .list) (m .shape); output = [] }
+timed-mended-made store right =
+    mending.mended-made clubs-roomy (timedView clubs) (timedStore clubs) (clubs-timed .view) store (timed-right clubs store right)
+
+pub timed-mended-refused : (store : TimedStore) → TimedLengths clubs store
+    → (mended (timedView clubs) (timedStore clubs) store .answer ≡ Refused NotMendable) ↔ (Mendable (timedView clubs) (timedStore clubs) store → ⊥)
+timed-mended-refused store right =
+    mending.mended-refused clubs-roomy (timedView clubs) (timedStore clubs) (clubs-timed .view) store (timed-right clubs store right)
+
+pub timed-mended-sheet : (store : TimedStore) (n : ℕ) → mended (timedView clubs) (timedStore clubs) store .answer ≡ Mended n
+    → (list : List ℕ) × TimedSheet list (mended (timedView clubs) (timedStore clubs) store .store) × (length list ≡ n)
+timed-mended-sheet = mending.mended-sheet clubs-roomy (timedView clubs) (timedStore clubs) (clubs-timed .view)
+
+pub timed-sheet-unaltered : (store : TimedStore) (list : List ℕ) → TimedSheet list store
+    → mended (timedView clubs) (timedStore clubs) store ≡ record { answer = Mended (length list); store = store; output = [] }
+timed-sheet-unaltered = mending.sheet-unaltered clubs-roomy (timedView clubs) (timedStore clubs) (clubs-timed .view)
 
 -- ---- the program
 

@@ -4,9 +4,11 @@ ghost use mathlib.Core.List.{[]};
 ghost use lib.ListN.{length};
 ghost use Rattle.call_outcomes.specs.Kind.{clear};
 ghost use Rattle.call_outcomes.specs.PlainCalls as call;
-ghost use Rattle.call_outcomes.specs.Plain.{plain, plainStoreOf};
+ghost use Rattle.call_outcomes.specs.Plain.{plainView, plain, plainStoreOf};
 ghost use Rattle.call_outcomes.specs.Clubs.{clubs};
-ghost use Rattle.call_handed.specs.Handed.{handed};
+ghost use Rattle.call_mend.specs.Mending.{mended};
+ghost use Rattle.call_mend.specs.Views.{plainStore};
+ghost use Rattle.call_handed.specs.Handed.{handedOver, handed};
 ghost use Rattle.call_orders.specs.Conversion.{toTree, toNumber};
 ghost use Rattle.sheet_c.specs.HandedCounts.{handedConversion};
 use tree_rules::Change;
@@ -199,6 +201,28 @@ pub extern "C" fn sheet_board(
     }
     call_handed::hand(
         sheet_calls::board(slots, counts, tallies, ranks, output).returned(),
+        2,
+        answer,
+    )
+}
+
+// Makes the store the sheet that has its slots and its size parameter, if there is one.
+#[no_mangle]
+pub extern "C" fn sheet_mend(
+    slots: &[u64],
+    counts: &mut [u16],
+    tallies: &mut [u16],
+    answer: &mut [u64],
+) -> usize
+    ensures { λ r. ⌜ record { number = r; store = plainStoreOf (now (slots .entry)) (now (counts .exit)) (now (tallies .exit)); output = []; answer = now (answer .exit) }
+        ≡ handedOver 2 (mended (plainView clubs) (plainStore clubs) (plainStoreOf (now (slots .entry)) (now (counts .entry)) (now (tallies .entry))))
+        (plainStoreOf (now (slots .entry)) (now (counts .entry)) (now (tallies .entry))) [] (now (answer .entry)) ⌝ }
+{
+    if answer.len() < 2 {
+        return 255;
+    }
+    call_handed::hand(
+        sheet_mend::mend(slots, counts, tallies).returned(),
         2,
         answer,
     )

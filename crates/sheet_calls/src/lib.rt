@@ -17,13 +17,7 @@ pub fn clear(slots: &mut [u64], counts: &mut [u16], tallies: &mut [u16]) -> Answ
     ensures { λ r. ⌜ plainOutcomeOf r (now (slots .exit)) (now (counts .exit)) (now (tallies .exit)) []
         ≡ outcome (plain clubs) clear [] (plainStoreOf (now (slots .entry)) (now (counts .entry)) (now (tallies .entry))) [] ⌝ }
 {
-    if slots.len() != 4224 {
-        return Answer::Refused(Cause::Lengths);
-    }
-    if counts.len() != 256 {
-        return Answer::Refused(Cause::Lengths);
-    }
-    if tallies.len() != 256 {
+    if !sheet_open::lengths_are_right(slots, counts, tallies) {
         return Answer::Refused(Cause::Lengths);
     }
     store_slices::zero_slots(slots, 0, 4224);

@@ -14,7 +14,7 @@ use store_layout::Capacity;
 use tree_sizes::Size;
 
 // What the clubs' store has room for.
-fn capacity() -> Capacity
+pub fn capacity() -> Capacity
     ensures { λ r. ⌜ r ≡ clubs ⌝ }
 {
     Capacity {
@@ -22,6 +22,19 @@ fn capacity() -> Capacity
         slots: 4224,
         counts: 256,
     }
+}
+
+// The three slices have the right lengths.
+pub fn lengths_are_right(slots: &[u64], counts: &[u16], tallies: &[u16]) -> bool
+    ensures { λ r. ⌜ r ≡ plainView clubs .rightLengths (plainStoreOf (now (slots .entry)) (now (counts .entry)) (now (tallies .entry))) ⌝ }
+{
+    if slots.len() != 4224 {
+        return false;
+    }
+    if counts.len() != 256 {
+        return false;
+    }
+    tallies.len() == 256
 }
 
 // The tallies are those of the sheet of n entries in slots and counts, whose counts the work array has by range number. Where the tally of the

@@ -3,9 +3,10 @@
 use mathlib.Core.Path.{_≡_, refl, sym, ap, _∙_, subst}
 use mathlib.Core.List.{List, [], _∷_, _++_}
 use Prim.Native.Nat.{ℕ, zero, suc, _+_, _*_, _/_, _≤_, _<_}
-use lib.ListN.{length, getD, set, replicate, length-set, length-replicate, getD-replicate}
-use lib.Seq.{getD-set-same, getD-set-other}
+use lib.ListN.{length, getD, set, take, replicate, length-set, length-append, length-replicate, getD-replicate}
+use lib.Seq.{take-suc, getD-set-same, getD-set-other}
 use native.Mathlib.Nat.{add-zero, add-suc, suc-add, zero-add, div-lt-iff-lt-mul, div-mul-le-self, le-div-iff-mul-le, le-of-suc-le-suc, mul-le-mul-right, not-suc-le-zero, suc-ne-zero}
+use native.Mathlib.Numerals.{add-one}
 use native.Mathlib.Omega.{arith}
 use Rattle.base.specs.Lists.{Every}
 use Rattle.store_layout.specs.Leaf.{slotOf, Positions, putEntries, spread, nonzero}
@@ -147,3 +148,11 @@ module _ (s n : ℕ) (xs : List ℕ) (number : length xs ≡ n) where
       (rw (zero-add k) at
       (put-at (slotOf s n) 0 xs (replicate s 0) (rw (zero-add (length xs), length-replicate, number) (slotOf-positions s n fit)) k
       (omega arith)))
+
+-- The entries of the first i + 1 slots, and their number.
+module _ (slots : List ℕ) (i : ℕ) (inside : i < length slots) where
+  pub entries-next : nonzero (take (i + 1) slots) ≡ nonzero (take i slots) ++ nonzero (getD slots i 0 ∷ [])
+  entries-next = rw (add-one i, take-suc slots i 0 inside) (nonzero-append (take i slots) (getD slots i 0 ∷ []))
+
+  pub number-next : length (nonzero (take (i + 1) slots)) ≡ length (nonzero (take i slots)) + length (nonzero (getD slots i 0 ∷ []))
+  number-next = rw entries-next (length-append (nonzero (take i slots)) (nonzero (getD slots i 0 ∷ [])))

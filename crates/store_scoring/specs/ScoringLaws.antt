@@ -9,7 +9,7 @@ use native.Mathlib.Omega.{arith}
 use borrow.Author.Tests.{le-leb, lt-leb, not-true}
 use lib.Bits.{bitOr, or-add-and, and-le-l, and-le-r, or-lt, or-mod}
 use lib.Dec.{leb}
-use lib.ListN.{length, getD, take, drop, length-append, length-take, take-append-drop}
+use lib.ListN.{length, getD, take, drop, length-take, take-append-drop}
 use lib.Seq.{take-suc, take-add}
 use Rattle.base.specs.BoolLaws.{and-assoc, and-both, and-true, true-or-false}
 use Rattle.base.specs.CaseLaws.{eq-or-ne, le-or-gt}
@@ -151,13 +151,6 @@ pub slots-append : (xs ys : List ℕ) → tally (nonzero (xs ++ ys)) ≡ tally (
 slots-append xs ys = rw (nonzero-append xs ys) (tally-append (nonzero xs) (nonzero ys))
 
 module _ (slots : List ℕ) (i : ℕ) (inside : i < length slots) where
-  -- The entries of the slots before the one behind i.
-  pub entries-next : nonzero (take (i + 1) slots) ≡ nonzero (take i slots) ++ nonzero (getD slots i 0 ∷ [])
-  entries-next = rw (add-one i, take-suc slots i 0 inside) (nonzero-append (take i slots) (getD slots i 0 ∷ []))
-
-  pub number-next : length (nonzero (take (i + 1) slots)) ≡ length (nonzero (take i slots)) + length (nonzero (getD slots i 0 ∷ []))
-  number-next = rw entries-next (length-append (nonzero (take i slots)) (nonzero (getD slots i 0 ∷ [])))
-
   pub tally-next : tally (nonzero (take (i + 1) slots)) ≡ tally (nonzero (take i slots)) + tally (nonzero (getD slots i 0 ∷ []))
   tally-next = rw (add-one i, take-suc slots i 0 inside) (slots-append (take i slots) (getD slots i 0 ∷ []))
 

@@ -28,11 +28,11 @@ use Rattle.store_layout.specs.Room.{Roomy}
 use Rattle.store_layout.specs.SheetLaws.{shapeOf-layOut}
 use Rattle.store_scoring.specs.Scoring.{tally}
 use Rattle.store_tallies.specs.Tallies.{rangeTallies, layTallies}
-use Rattle.store_tallies.specs.TalliesIn.{IsRange}
+use Rattle.store_sums.specs.Range.{IsRange}
 use Rattle.store_tallies.specs.TallyTree.{tallyTree}
 use Rattle.store_tallies.specs.HoldsTallies.{HoldsTallies, entriesOf}
 use Rattle.store_tallies.specs.LayLaws.{tally-rest, rangeTallies-holds}
-use Rattle.store_tallies.specs.IsRangeLaws.{range-below}
+use Rattle.store_sums.specs.IsRangeLaws.{range-below}
 
 -- ---- the entries of the ranges
 

@@ -8,8 +8,10 @@ use lib.ListN.{getD}
 use lib.Pow.{pow-pos}
 use Rattle.base.specs.CaseLaws.{by-le, ifLe-yes, ifLe-no}
 use Rattle.tree_sizes.specs.Sizes.{height}
-use Rattle.store_tallies.specs.TalliesIn.{IsRange, tallyBefore, TalliesIn}
-use Rattle.store_tallies.specs.SumLaws.{range-start, range-left, range-right, before-left, before-next, before-root}
+use Rattle.store_sums.specs.Range.{IsRange}
+use Rattle.store_sums.specs.SumLaws.{range-start, range-left, range-right, before-left, before-next, before-root}
+use Rattle.store_tallies.specs.AdditiveLaws.{tally-additive}
+use Rattle.store_tallies.specs.TalliesIn.{tallyBefore, TalliesIn}
 use Rattle.store_tallies.specs.Path.{pathTally, OnPath}
 
 -- ---- the loop that goes down
@@ -74,15 +76,15 @@ module _ {M : ℕ} {slots words : List ℕ} (w : TalliesIn M slots words) (leaf 
       (λ h.
       omega (
         arith,
-        before-left M slots levels k,
-        before-next M slots levels (2 * k) (range-start (range-left v)),
+        before-left tally-additive M slots levels k,
+        before-next tally-additive M slots levels (2 * k) (range-start (range-left v)),
         w .ranges levels (2 * k) (range-left v),
         below levels (2 * k + 1) (range-right v) h (omega arith),
       ))
-      (λ h. rw (before-left M slots levels k) (below levels (2 * k) (range-left v) (omega arith) h))
+      (λ h. rw (before-left tally-additive M slots levels k) (below levels (2 * k) (range-left v) (omega arith) h))
 
   pub path-before : 2 ^ height M ≤ leaf → leaf < 2 * 2 ^ height M → pathTally words leaf (height M) 1 ≡ tallyBefore M slots 0 leaf
   path-before from before =
       let top : height M - height M ≡ 0 = omega arith in
       let root : IsRange M (height M) 1 = record { inside = omega arith; from = rw top (omega arith); before = rw top (omega arith) } in
-      omega (arith, below (height M) 1 root (omega arith) (omega arith), before-root M slots)
+      omega (arith, below (height M) 1 root (omega arith) (omega arith), before-root tally-additive M slots)

@@ -1,11 +1,11 @@
 // The tallies of a sheet: for each range the number of its scoring entries.
 ghost use mathlib.Core.Path.{_≡_};
-ghost use Prim.Native.Nat.{ℕ, _+_, _*_, _^_, _≤_, _<_};
+ghost use Prim.Native.Nat.{_+_, _*_, _^_, _≤_, _<_};
 ghost use lib.ListN.{length};
 ghost use Rattle.tree_sizes.specs.Sizes as sizes;
 ghost use Rattle.tree_sizes.specs.Sizes.{height};
 ghost use Rattle.store_tallies.specs.TalliesIn.{tallyAt, LeavesCounted, TalliesBut, TalliesIn};
-ghost use Rattle.store_tallies.specs.Updating.{Filled, halvesSum};
+ghost use Rattle.store_sums.specs.Updating.{Filled};
 ghost use Rattle.store_tallies.specs.Path.{pathTally};
 use store_layout::count_at;
 use store_scoring::tally_of;
@@ -38,23 +38,8 @@ fn count_leaves(
     }
 }
 
-// Writes at each range number from `first` up to, not including, `end` the sum over the halves.
-fn add_halves(tallies: &mut [u32], first: usize, end: usize)
-    requires order { ⌜ first ≤ end ⌝ }
-    requires room { ⌜ 2 * end ≤ length (now tallies) ⌝ }
-    requires small { ⌜ ((k : ℕ) → first ≤ k → k < end → halvesSum (now tallies) k < 2 ^ 32) ⌝ }
-    ensures { λ _. ⌜ Filled (halvesSum (now (tallies .entry))) first end (now (tallies .entry)) (now (tallies .exit)) ⌝ }
-{
-    let mut k = first;
-    while k < end {
-        tallies[k] = tallies[2 * k] + tallies[2 * k + 1];
-        k += 1;
-    }
-}
-
 // Brings the tallies up to date where they may be wrong: at the ranges that have one of the leaves with the range numbers from `first` to
-// `last`, whose counts are given. The scoring entries of the leaves are counted, and then, row by row, the ranges above them get the sums
-// over their halves.
+// `last`, whose counts are given. The scoring entries of the leaves are counted, and then the ranges above them get the sums over their halves.
 pub fn update_tallies(
     size: Size,
     slots: &[u64],
@@ -73,13 +58,7 @@ pub fn update_tallies(
     ensures { λ _. ⌜ TalliesIn (size .m) (now (slots .entry)) (now (tallies .exit)) ⌝ }
 {
     count_leaves(size, slots, counts, first, last + 1, tallies);
-    let mut from = first;
-    let mut to = last;
-    while 1 < from {
-        from = from / 2;
-        to = to / 2;
-        add_halves(tallies, from, to + 1);
-    }
+    store_sums::add_rows(tallies, first, last);
 }
 
 // The number of scoring entries before the leaf with this range number: on the way down to it, the tallies of the left halves of which the

@@ -27,26 +27,26 @@ first-zero (x ∷ xs) counts some h = rw (eq-eqb x 0 h)
 
 -- ---- a copy
 
--- The tallies are copied from the counts before the number k, and number 0 is 0.
-pub record CopiedTo (counts : List ℕ) (k : ℕ) (tallies : List ℕ) : Type 0 where
+-- The tallies are copied from the counts from number 1 on, before the number k, and number 0 is x.
+pub record CopiedTo (x : ℕ) (counts : List ℕ) (k : ℕ) (tallies : List ℕ) : Type 0 where
   pub lengths : length tallies ≡ length counts
-  pub first : getD tallies 0 0 ≡ 0
+  pub first : getD tallies 0 0 ≡ x
   pub others : (i : ℕ) → 0 < i → i < k → getD tallies i 0 ≡ getD counts i 0
 
-pub copied : {tallies counts : List ℕ} {k : ℕ} → 0 < length counts → length counts ≤ k → CopiedTo counts k tallies → tallies ≡ 0 ∷ drop 1 counts
-copied {tallies} {counts} some all w =
-    ext-getD 0 tallies (0 ∷ drop 1 counts) (w .lengths ∙ omega (arith, length-drop 1 counts)) at
+pub copied : {x : ℕ} {tallies counts : List ℕ} {k : ℕ} → 0 < length counts → length counts ≤ k → CopiedTo x counts k tallies → tallies ≡ x ∷ drop 1 counts
+copied {x} {tallies} {counts} some all w =
+    ext-getD 0 tallies (x ∷ drop 1 counts) (w .lengths ∙ omega (arith, length-drop 1 counts)) at
   where
-    at : (i : ℕ) → i < length tallies → getD tallies i 0 ≡ getD (0 ∷ drop 1 counts) i 0
+    at : (i : ℕ) → i < length tallies → getD tallies i 0 ≡ getD (x ∷ drop 1 counts) i 0
     at zero h = w .first
     at (suc i) h =
         let next : 1 + i ≡ suc i = suc-add 0 i ∙ rw (zero-add i) in
         w .others (suc i) (omega arith) (omega (arith, w .lengths)) ∙ sym (rw next at (getD-drop 1 counts i 0))
 
 -- One number more.
-pub copied-next : {tallies counts : List ℕ} {k : ℕ} → 0 < k → k < length counts → CopiedTo counts k tallies
-    → CopiedTo counts (k + 1) (set tallies k (getD counts k 0))
-copied-next {tallies} {counts} {k} some less w = record {
+pub copied-next : {x : ℕ} {tallies counts : List ℕ} {k : ℕ} → 0 < k → k < length counts → CopiedTo x counts k tallies
+    → CopiedTo x counts (k + 1) (set tallies k (getD counts k 0))
+copied-next {x} {tallies} {counts} {k} some less w = record {
   lengths = length-set tallies k (getD counts k 0) ∙ w .lengths;
   first = getD-set-other tallies k 0 (getD counts k 0) 0 (λ e. omega (arith, e)) ∙ w .first;
   others = λ i pos h.

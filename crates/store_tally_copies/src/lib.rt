@@ -48,6 +48,19 @@ pub fn are_counts(tallies: &[u16], counts: &[u16]) -> bool
     same_from(tallies, counts, 1)
 }
 
+// Copies the numbers from 1 on; number 0 is not written.
+pub fn copy_ranges(to: &mut [u16], from: &[u16])
+    requires lengths { ⌜ length (now to) ≡ length (now from) ⌝ }
+    requires some { ⌜ 0 < length (now to) ⌝ }
+    ensures { λ _. ⌜ now (to .exit) ≡ getD (now (to .entry)) 0 0 ∷ drop 1 (now (from .entry)) ⌝ }
+{
+    let mut k: usize = 1;
+    while k < from.len() {
+        to[k] = from[k];
+        k += 1;
+    }
+}
+
 // Makes the tallies the counts, but 0 at number 0.
 pub fn copy_counts(tallies: &mut [u16], counts: &[u16])
     requires lengths { ⌜ length (now tallies) ≡ length (now counts) ⌝ }
@@ -55,9 +68,5 @@ pub fn copy_counts(tallies: &mut [u16], counts: &[u16])
     ensures { λ _. ⌜ now (tallies .exit) ≡ 0 ∷ drop 1 (now (counts .entry)) ⌝ }
 {
     tallies[0] = 0;
-    let mut k: usize = 1;
-    while k < counts.len() {
-        tallies[k] = counts[k];
-        k += 1;
-    }
+    copy_ranges(tallies, counts);
 }

@@ -7,9 +7,8 @@ use native.Mathlib.Numerals.{add-one}
 use lib.ListN.{length, getD, take, drop, take-append-drop}
 use lib.Seq.{drop-cons}
 use Rattle.store_layout.specs.Leaf.{nonzero}
-use Rattle.store_layout.specs.LeafLaws.{nonzero-append, nonzero-zero, nonzero-entry}
+use Rattle.store_layout.specs.LeafLaws.{nonzero-append, nonzero-zero, nonzero-entry, entries-next}
 use Rattle.store_scoring.specs.Scoring.{retiredBit, tally}
-use Rattle.store_scoring.specs.ScoringLaws.{entries-next}
 use Rattle.store_ties.specs.Ties.{tieBit}
 use Rattle.store_ties.specs.Steps.{entriesBefore, InSlot, endTied}
 use Rattle.store_ties.specs.TiesLaws.{tally-last-retired, tally-last-scoring, end-last-retired, end-last-scoring}

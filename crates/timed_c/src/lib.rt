@@ -4,9 +4,11 @@ ghost use mathlib.Core.List.{[]};
 ghost use lib.ListN.{length};
 ghost use Rattle.call_outcomes.specs.Kind.{clear};
 ghost use Rattle.call_outcomes.specs.Clubs.{clubs};
-ghost use Rattle.call_handed.specs.Handed.{handed};
+ghost use Rattle.call_mend.specs.Mending.{mended};
+ghost use Rattle.call_mend.specs.Views.{timedStore};
+ghost use Rattle.call_handed.specs.Handed.{handedOver, handed};
 ghost use Rattle.call_timed.specs.Timed as call;
-ghost use Rattle.call_timed.specs.Timed.{timed, timedStoreOf};
+ghost use Rattle.call_timed.specs.Timed.{timedView, timed, timedStoreOf};
 
 // Makes any contents the empty timed sheet.
 #[no_mangle]
@@ -190,6 +192,29 @@ pub extern "C" fn timed_board(
     }
     call_handed::hand(
         timed_calls::board(slots, counts, tallies, balance, ranks, output).returned(),
+        2,
+        answer,
+    )
+}
+
+// Makes the store the timed sheet that has its slots and its size parameter, if there is one.
+#[no_mangle]
+pub extern "C" fn timed_mend(
+    slots: &[u64],
+    counts: &mut [u16],
+    tallies: &mut [u16],
+    balance: &mut [u64],
+    answer: &mut [u64],
+) -> usize
+    ensures { λ r. ⌜ record { number = r; store = timedStoreOf (now (slots .entry)) (now (counts .exit)) (now (tallies .exit)) (now (balance .exit)); output = []; answer = now (answer .exit) }
+        ≡ handedOver 2 (mended (timedView clubs) (timedStore clubs) (timedStoreOf (now (slots .entry)) (now (counts .entry)) (now (tallies .entry)) (now (balance .entry))))
+        (timedStoreOf (now (slots .entry)) (now (counts .entry)) (now (tallies .entry)) (now (balance .entry))) [] (now (answer .entry)) ⌝ }
+{
+    if answer.len() < 2 {
+        return 255;
+    }
+    call_handed::hand(
+        timed_mend::mend(slots, counts, tallies, balance).returned(),
         2,
         answer,
     )

@@ -23,16 +23,7 @@ pub fn clear(
     ensures { λ r. ⌜ timedOutcomeOf r (now (slots .exit)) (now (counts .exit)) (now (tallies .exit)) (now (balance .exit)) []
         ≡ outcome (timed clubs) clear [] (timedStoreOf (now (slots .entry)) (now (counts .entry)) (now (tallies .entry)) (now (balance .entry))) [] ⌝ }
 {
-    if slots.len() != 4224 {
-        return Answer::Refused(Cause::Lengths);
-    }
-    if counts.len() != 256 {
-        return Answer::Refused(Cause::Lengths);
-    }
-    if tallies.len() != 256 {
-        return Answer::Refused(Cause::Lengths);
-    }
-    if balance.len() != 256 {
+    if !timed_open::lengths_are_right(slots, counts, tallies, balance) {
         return Answer::Refused(Cause::Lengths);
     }
     store_slices::zero_slots(slots, 0, 4224);

@@ -1,2 +1,3 @@
--- The look at a timed store.
+-- The look at a timed store, and its lengths.
+pub mod LengthLaws
 pub mod OpeningLaws

@@ -15,6 +15,17 @@ use call_open::Opened;
 use call_outcomes::Cause;
 use tree_sizes::Size;
 
+// The four slices have the right lengths.
+pub fn lengths_are_right(slots: &[u64], counts: &[u16], tallies: &[u16], balance: &[u64]) -> bool
+    ensures { λ r. ⌜ r
+        ≡ timedView clubs .rightLengths (timedStoreOf (now (slots .entry)) (now (counts .entry)) (now (tallies .entry)) (now (balance .entry))) ⌝ }
+{
+    if !sheet_open::lengths_are_right(slots, counts, tallies) {
+        return false;
+    }
+    balance.len() == 256
+}
+
 // The entries of a sheet of this size rise, and the third slice is the one that its slots give.
 fn is_timed(size: Size, slots: &[u64], balance: &[u64]) -> bool
     requires most { ⌜ size .m < 2 ^ 32 ⌝ }

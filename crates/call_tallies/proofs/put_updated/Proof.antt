@@ -6,8 +6,9 @@ use denote.Ref.{now}
 use lib.ListN.{length}
 use Rattle.tree_sizes.specs.Sizes.{height}
 use Rattle.store_order.specs.CountOrder.{countOrder}
-use Rattle.store_tallies.specs.LaidLaws.{tallies-only}
-use Rattle.call_tallies.specs.SmallLaws.{tallies-small}
+use Rattle.store_sums.specs.LaidLaws.{numbers-only}
+use Rattle.store_sums.specs.SmallLaws.{numbers-small}
+use Rattle.store_tallies.specs.AdditiveLaws.{tally-additive}
 use borrow.Author.Needs.{needs}
 use Rattle.call_tallies.proofs.put_updated.Statement.{statement}
 use Rattle.call_tallies.proofs.put_updated.Tie as tie
@@ -33,7 +34,7 @@ write-counts-requires c κs =
     let s = u .before .before .before .before .before .before in
     let r = s .pre .0 in
     let same : length (c .before .before .before .before .update-tallies .last .1 .1 .1 .1 .1 .0) ≡ length (now (s .args .numbers)) = search needs in
-    (omega (arith, s .pre .1 .0, same), (tallies-small (u .update-tallies .ensures) (2 ^ 16) (r .few), omega (arith, r .ranges-room, s .pre .1 .0, same)))
+    (omega (arith, s .pre .1 .0, same), (numbers-small tally-additive (u .update-tallies .ensures) (2 ^ 16) (omega arith) (r .few), omega (arith, r .ranges-room, s .pre .1 .0, same)))
 
 same-length : tie.Need-same-length
 same-length c = search needs
@@ -47,7 +48,7 @@ returns c =
     let u = k .before .before .before .before .before in
     let s = u .before .before .before .before .before .before in
     let same : length (u .update-tallies .last .1 .1 .1 .1 .1 .0) ≡ length (now (s .args .numbers)) = search needs in
-    λ words found size. k .write-counts .ensures ∙ ap (countOrder (height (s .args .size .m))) (tallies-only _ _ _ words (u .update-tallies .ensures) found (same ∙ s .pre .1 .0 ∙ sym size))
+    λ words found size. k .write-counts .ensures ∙ ap (countOrder (height (s .args .size .m))) (numbers-only _ _ _ _ _ words (u .update-tallies .ensures) found (same ∙ s .pre .1 .0 ∙ sym size))
 
 pub put-updated-spec : {M : Type 1} → statement M
 put-updated-spec =

@@ -5,7 +5,7 @@ use Rattle.sheet_c.proofs.hand_change.Statement.{statement}
 use Rattle.sheet_c.proofs.hand_change.Tie as tie
 
 returns : tie.Need-returns
-returns c = handed-short _ _ _ _ _ _ _ (c .if1 .taken)
+returns c = handed-short _ _ _ _ _ (c .if1 .taken)
 
 make-change-requires : tie.Need-make-change-requires
 make-change-requires c κs = search needs
@@ -33,7 +33,7 @@ returns-2 c =
     let hand = c .before .before in
     let back = hand .before .before in
     let made = back .before .before .before .before .before .before .before in
-    handed-done _ _ _ _ _ _ _ (made .before .before .before .before .if1 .left) (made .make-change .ensures) (back .returned .ensures) (hand .hand .ensures)
+    handed-done _ _ _ _ _ (made .before .before .before .before .if1 .left) (made .make-change .ensures) (back .returned .ensures) (hand .hand .ensures)
 
 pub hand-change-spec : {M : Type 1} → statement M
 hand-change-spec =

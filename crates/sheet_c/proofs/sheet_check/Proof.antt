@@ -5,7 +5,7 @@ use Rattle.sheet_c.proofs.sheet_check.Statement.{statement}
 use Rattle.sheet_c.proofs.sheet_check.Tie as tie
 
 returns : tie.Need-returns
-returns c = handed-short _ _ _ _ _ _ _ (c .if1 .taken)
+returns c = handed-short _ _ _ _ _ (c .if1 .taken)
 
 check-requires : tie.Need-check-requires
 check-requires c κs = search needs
@@ -24,7 +24,7 @@ returns-2 c =
     let hand = c .before .before in
     let back = hand .before .before in
     let made = back .before in
-    handed-done _ _ _ _ _ _ _ (made .before .if1 .left) (made .check .ensures) (back .returned .ensures) (hand .hand .ensures)
+    handed-done _ _ _ _ _ (made .before .if1 .left) (made .check .ensures) (back .returned .ensures) (hand .hand .ensures)
 
 pub sheet-check-spec : {M : Type 1} → statement M
 sheet-check-spec =

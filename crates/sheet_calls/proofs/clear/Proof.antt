@@ -1,30 +1,26 @@
 -- `clear` meets its contract.
+use mathlib.Core.Path.{_≡_, sym, _∙_}
+use mathlib.Core.Bool.{true}
+use native.Mathlib.Omega.{arith}
+use borrow.Author.Tests.{not-true, not-false}
+use denote.Ref.{now}
 use Rattle.call_outcomes.specs.DecisionLaws.{clear-refused}
-use Rattle.call_outcomes.specs.Plain.{plain}
+use Rattle.call_outcomes.specs.Plain.{plainView, plain, plainStoreOf}
+use Rattle.call_outcomes.specs.PlainLaws.{right-plain}
 use Rattle.call_outcomes.specs.Clubs.{clubs}
-use Rattle.call_open.specs.OpeningLaws.{slots-wrong, counts-wrong}
-use Rattle.sheet_calls.specs.ClearLaws.{sheet-wrong, tallies-wrong, clear-done}
+use Rattle.sheet_calls.specs.ClearLaws.{clear-done}
 use borrow.Author.Needs.{needs}
 use Rattle.sheet_calls.proofs.clear.Statement.{statement}
 use Rattle.sheet_calls.proofs.clear.Tie as tie
 
-returns : tie.Need-returns
-returns c = clear-refused (plain clubs) _ _ (sheet-wrong _ _ _ (slots-wrong clubs _ _ (c .if1 .taken)))
+-- The lengths are right.
+right : (e : tie.Else1)
+    → let a = e .before .before .before .before .before .before .before .before .args in
+    plainView clubs .rightLengths (plainStoreOf (now (a .slots)) (now (a .counts)) (now (a .tallies))) ≡ true
+right e = sym (e .before .lengths-are-right .ensures) ∙ not-false _ (e .if1 .left)
 
-returns-2 : tie.Need-returns-2
-returns-2 c = clear-refused (plain clubs) _ _ (sheet-wrong _ _ _ (counts-wrong clubs _ _ (c .if2 .taken)))
-
-returns-3 : tie.Need-returns-3
-returns-3 c = clear-refused (plain clubs) _ _ (tallies-wrong _ _ _ (c .if3 .taken))
-
-zero-slots-requires : tie.Need-zero-slots-requires
-zero-slots-requires c κs = search needs
-
-zero-counts-requires : tie.Need-zero-counts-requires
-zero-counts-requires c κs = search needs
-
-zero-counts-requires-2 : tie.Need-zero-counts-requires-2
-zero-counts-requires-2 c κs = search needs
+lengths-are-right-requires : tie.Need-lengths-are-right-requires
+lengths-are-right-requires c κs = search needs
 
 same-length : tie.Need-same-length
 same-length c = search needs
@@ -35,25 +31,47 @@ same-length-2 c = search needs
 same-length-3 : tie.Need-same-length-3
 same-length-3 c = search needs
 
-returns-4 : tie.Need-returns-4
-returns-4 c =
+returns : tie.Need-returns
+returns c = clear-refused (plain clubs) _ _ (sym (c .before .lengths-are-right .ensures) ∙ not-true _ (c .if1 .taken))
+
+zero-slots-requires : tie.Need-zero-slots-requires
+zero-slots-requires c κs = omega (arith, right-plain clubs _ (right (c .before)) .sheet .slots)
+
+zero-counts-requires : tie.Need-zero-counts-requires
+zero-counts-requires c κs = search needs
+
+zero-counts-requires-2 : tie.Need-zero-counts-requires-2
+zero-counts-requires-2 c κs = search needs
+
+same-length-4 : tie.Need-same-length-4
+same-length-4 c = search needs
+
+same-length-5 : tie.Need-same-length-5
+same-length-5 c = search needs
+
+same-length-6 : tie.Need-same-length-6
+same-length-6 c = search needs
+
+returns-2 : tie.Need-returns-2
+returns-2 c =
     let t = c .before .before in
     let k = t .before .before .before .before in
     let z = k .before .before .before .before in
-    let e = z .before .before in
-    clear-done _ _ _ (e .before .before .if1 .left) (e .before .if2 .left) (e .if3 .left) (z .zero-slots .ensures) (k .zero-counts .ensures) (t .zero-counts2 .ensures)
+    clear-done _ _ _ (right (z .before .before)) (z .zero-slots .ensures) (k .zero-counts .ensures) (t .zero-counts2 .ensures)
 
 pub clear-spec : {M : Type 1} → statement M
 clear-spec =
     tie.close
     (tie.spec
-    returns
-    returns-2
-    returns-3
-    zero-slots-requires
-    zero-counts-requires
-    zero-counts-requires-2
+    lengths-are-right-requires
     same-length
     same-length-2
     same-length-3
-    returns-4)
+    returns
+    zero-slots-requires
+    zero-counts-requires
+    zero-counts-requires-2
+    same-length-4
+    same-length-5
+    same-length-6
+    returns-2)

@@ -6,9 +6,9 @@ use borrow.Author.Needs.{needs}
 use lib.ListN.{length, take, drop, length-take, length-drop}
 use lib.Seq.{getD-drop}
 use Rattle.store_layout.specs.Leaf.{nonzero}
-use Rattle.store_layout.specs.LeafLaws.{nonzero-length}
+use Rattle.store_layout.specs.LeafLaws.{nonzero-length, number-next}
 use Rattle.store_scoring.specs.Scoring.{tally}
-use Rattle.store_scoring.specs.ScoringLaws.{number-next, tally-next}
+use Rattle.store_scoring.specs.ScoringLaws.{tally-next}
 use Rattle.store_scoring.proofs.tally_of.Statement.{statement}
 use Rattle.store_scoring.proofs.tally_of.Tie as tie
 

@@ -11,9 +11,9 @@ use Rattle.tree_sizes.specs.SizeLaws.{height-most, leafSlots-most, slots-le}
 use Rattle.store_layout.specs.Leaf.{nonzero}
 use Rattle.store_scoring.specs.Scoring.{tally}
 use Rattle.store_scoring.specs.ScoringLaws.{tally-slots}
-use Rattle.store_tallies.specs.Updating.{Filled}
-use Rattle.store_tallies.specs.SumLaws.{slots-leaf, tally-leaf, leaf-room}
-use Rattle.store_tallies.specs.UpdatingLaws.{filled-none, filled-next, filled-by}
+use Rattle.store_sums.specs.Updating.{Filled}
+use Rattle.store_sums.specs.SumLaws.{slots-leaf, number-leaf, leaf-room}
+use Rattle.store_sums.specs.UpdatingLaws.{filled-none, filled-next, filled-by}
 use Rattle.store_tallies.proofs.count_leaves.Statement.{statement}
 use Rattle.store_tallies.proofs.count_leaves.Tie as tie
 
@@ -112,7 +112,7 @@ returns c =
     let p = l .before in
     let a = p .before .before .before .before .before .before .args in
     let all : l .loop .k ≡ a .end = omega arith in
-    filled-by (λ k. rw (p .before .before .leaf-slots .ensures, first-leaf p) (sym (tally-leaf (size p) (a .slots .now) k))) (rw all at (l .loop .inv .2))
+    filled-by (λ k. rw (p .before .before .leaf-slots .ensures, first-leaf p) (sym (number-leaf tally (size p) (a .slots .now) k))) (rw all at (l .loop .inv .2))
 
 pub count-leaves-spec : {M : Type 1} → statement M
 count-leaves-spec =

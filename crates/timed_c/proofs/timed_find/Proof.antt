@@ -5,7 +5,7 @@ use Rattle.timed_c.proofs.timed_find.Statement.{statement}
 use Rattle.timed_c.proofs.timed_find.Tie as tie
 
 returns : tie.Need-returns
-returns c = handed-short _ _ _ _ _ _ _ (c .if1 .taken)
+returns c = handed-short _ _ _ _ _ (c .if1 .taken)
 
 find-requires : tie.Need-find-requires
 find-requires c κs = search needs
@@ -24,7 +24,7 @@ returns-2 c =
     let hand = c .before .before in
     let back = hand .before .before in
     let made = back .before in
-    handed-done _ _ _ _ _ _ _ (made .before .if1 .left) (made .find .ensures) (back .returned .ensures) (hand .hand .ensures)
+    handed-done _ _ _ _ _ (made .before .if1 .left) (made .find .ensures) (back .returned .ensures) (hand .hand .ensures)
 
 pub timed-find-spec : {M : Type 1} → statement M
 timed-find-spec =

@@ -5,7 +5,7 @@ use Rattle.timed_c.proofs.timed_insert.Statement.{statement}
 use Rattle.timed_c.proofs.timed_insert.Tie as tie
 
 returns : tie.Need-returns
-returns c = handed-short _ _ _ _ _ _ _ (c .if1 .taken)
+returns c = handed-short _ _ _ _ _ (c .if1 .taken)
 
 insert-requires : tie.Need-insert-requires
 insert-requires c κs = search needs
@@ -36,7 +36,7 @@ returns-2 c =
     let hand = c .before .before in
     let back = hand .before .before in
     let made = back .before .before .before .before .before .before .before .before .before in
-    handed-done _ _ _ _ _ _ _ (made .before .before .before .before .before .if1 .left) (made .insert .ensures) (back .returned .ensures) (hand .hand .ensures)
+    handed-done _ _ _ _ _ (made .before .before .before .before .before .if1 .left) (made .insert .ensures) (back .returned .ensures) (hand .hand .ensures)
 
 pub timed-insert-spec : {M : Type 1} → statement M
 timed-insert-spec =

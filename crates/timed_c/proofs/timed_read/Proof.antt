@@ -5,7 +5,7 @@ use Rattle.timed_c.proofs.timed_read.Statement.{statement}
 use Rattle.timed_c.proofs.timed_read.Tie as tie
 
 returns : tie.Need-returns
-returns c = handed-short _ _ _ _ _ _ _ (c .if1 .taken)
+returns c = handed-short _ _ _ _ _ (c .if1 .taken)
 
 read-requires : tie.Need-read-requires
 read-requires c κs = search needs
@@ -27,7 +27,7 @@ returns-2 c =
     let hand = c .before .before in
     let back = hand .before .before in
     let made = back .before .before .before in
-    handed-done _ _ _ _ _ _ _ (made .before .before .if1 .left) (made .read .ensures) (back .returned .ensures) (hand .hand .ensures)
+    handed-done _ _ _ _ _ (made .before .before .if1 .left) (made .read .ensures) (back .returned .ensures) (hand .hand .ensures)
 
 pub timed-read-spec : {M : Type 1} → statement M
 timed-read-spec =

@@ -62,6 +62,12 @@ accepted-requires-8 c κs = search needs
 enum-known-self-8 : tie.Need-enum-known-self-8
 enum-known-self-8 c = search needs
 
+accepted-requires-9 : tie.Need-accepted-requires-9
+accepted-requires-9 c κs = search needs
+
+enum-known-self-9 : tie.Need-enum-known-self-9
+enum-known-self-9 c = search needs
+
 number-requires : tie.Need-number-requires
 number-requires c κs = search needs
 
@@ -90,7 +96,10 @@ returns-8 : tie.Need-returns-8
 returns-8 c = c .accepted8 .ensures ∙ ap returned (sym (c .before .before .self7 .given .1))
 
 returns-9 : tie.Need-returns-9
-returns-9 c = ap refusal (c .number .ensures) ∙ ap returned (sym (c .before .before .self8 .given .1))
+returns-9 c = c .accepted9 .ensures ∙ ap returned (sym (c .before .before .self8 .given .1))
+
+returns-10 : tie.Need-returns-10
+returns-10 c = ap refusal (c .number .ensures) ∙ ap returned (sym (c .before .before .self9 .given .1))
 
 pub returned-spec : {M : Type 1} → statement M
 returned-spec =
@@ -113,6 +122,8 @@ returned-spec =
     enum-known-self-7
     accepted-requires-8
     enum-known-self-8
+    accepted-requires-9
+    enum-known-self-9
     number-requires
     returns
     returns-2
@@ -122,4 +133,5 @@ returned-spec =
     returns-6
     returns-7
     returns-8
-    returns-9)
+    returns-9
+    returns-10)

@@ -1,0 +1,12 @@
+-- Numbers of the ranges of a sheet that add up from the leaves: definitions first, then their laws.
+pub mod Range
+pub mod Numbers
+pub mod Updating
+pub mod TreeIn
+pub mod IsRangeLaws
+pub mod SumLaws
+pub mod UpdatingLaws
+pub mod SmallLaws
+pub mod KeptLaws
+pub mod LaidLaws
+pub mod TreeInLaws

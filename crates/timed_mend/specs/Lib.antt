@@ -1,0 +1,2 @@
+-- Mending the clubs' timed sheet.
+pub mod MendLaws
