@@ -1,4 +1,5 @@
-/* The packed finishing sheet: seven calls on a store that the caller lends, and the conversion of its counts between two orders.
+/* The packed finishing sheet: seven calls on a store that the caller lends, the mending of a spoiled one, and the conversion of its counts between
+ * two orders.
  *
  * On x86-64 Linux, `rt staticlib sheet_c` proves the crates and writes target/staticlib/libsheet_c.a; a program is then built by
  *
@@ -39,6 +40,7 @@
  *     place           the place p, the sum of the places p to p + t - 1, the number t of boats of the tied group; 0, 0, 1 for a retired boat
  *     check           N, 0
  *     conversions     M, 0
+ *     mend            N, 0
  *
  * The first cause decides, in the order of the numbers but for SHEET_BOARD_RANKS, which comes after SHEET_NOT_A_SHEET and before SHEET_RANK. A
  * refused call puts zeros into these two or three elements and changes nothing else. Where `answer` has fewer than that, SHEET_ANSWER_SHORT is
@@ -49,6 +51,12 @@
  * suffice for any one call, but for a share below 2^-134 of all tapes of that length (docs/DECISIONS.md, "How many words a call reads"). On
  * SHEET_TAPE_ENDED make the call again with the SAME words and more behind them: a call that is decided does not change with more tape. Other
  * words in their place would favour the sheets that take few words, and the store would disclose something of its history.
+ *
+ * A spoiled store. A worn card spoils counts more often than slots. sheet_mend puts counts and tallies back in that follow from the slots and the
+ * size parameter, where some sheet has these; there is at most one. It is for a store that SHEET_NOT_A_SHEET refuses though nobody but the calls wrote
+ * it. It hides nothing: a store that it mends is the sheet that any reader of the slots works out, and what is not one it refuses. It cannot tell a
+ * spoiled slot or a spoiled M from a right one where another sheet has these slots and this M. It is no call of a history: what is said of equal shares
+ * is said of stores that the calls alone have written. From the mended sheet on every call does what it does on any sheet.
  *
  * Not claimed: that copies of a sheet taken at two times disclose nothing when they are compared; anything where arguments are chosen after
  * coins were seen, or where other code writes the store; that the caller's words are random; that the compiler is right.
@@ -80,6 +88,7 @@
 #define SHEET_OUTPUT_SHORT 6   /* the output has fewer than last - first + 1 elements, or fewer than there are ranks on the board */
 #define SHEET_TAPE_ENDED 7     /* the tape ends before a draw is decided */
 #define SHEET_BOARD_RANKS 16   /* the ranks of a board fall, or are more than SHEET_BOARD */
+#define SHEET_NOT_MENDABLE 18  /* no sheet has these slots and this size parameter */
 #define SHEET_ANSWER_SHORT 255 /* `answer` has fewer than three elements (place) or two (every other call) */
 
 #ifdef __cplusplus
@@ -118,6 +127,12 @@ size_t sheet_check(const uint64_t *slots, size_t slots_len, const uint16_t *coun
 size_t sheet_board(const uint64_t *slots, size_t slots_len, const uint16_t *counts, size_t counts_len, const uint16_t *tallies,
                    size_t tallies_len, const uint64_t *ranks, size_t ranks_len, uint64_t *output, size_t output_len, uint64_t *answer,
                    size_t answer_len);
+
+/* Puts the counts and the tallies of the sheet that has these slots and this size parameter, counts[0], into the store, and gives N. Slots and
+ * counts[0] are not written. A sheet comes through unaltered. SHEET_LENGTHS, then SHEET_NOT_MENDABLE exactly where there is no such sheet, whatever the
+ * other counts and the tallies hold. No words are read. */
+size_t sheet_mend(const uint64_t *slots, size_t slots_len, uint16_t *counts, size_t counts_len, uint16_t *tallies, size_t tallies_len,
+                  uint64_t *answer, size_t answer_len);
 
 /* Counts that stand in the order of the range numbers, as before F-5, put into the tree order, in place. SHEET_LENGTHS where there are not
  * SHEET_COUNTS counts, SHEET_NOT_A_SHEET where M is above 2 SHEET_ENTRIES - 1; everything else is accepted, whatever the other counts are.

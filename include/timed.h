@@ -24,6 +24,7 @@
  *     read, board     the entries put into `output`, 0
  *     place           the place p, the sum of the places p to p + t - 1, the number t of boats of the tied group; 0, 0, 1 for a retired boat
  *     check           N, 0
+ *     mend            N, 0
  *
  * The first cause decides, in the order SHEET_LENGTHS, SHEET_NOT_A_SHEET, TIMED_NOT_TIMED, SHEET_BOARD_RANKS, SHEET_ENTRY_ZERO, TIMED_PRESENT,
  * SHEET_RANK, SHEET_FULL, SHEET_OUTPUT_SHORT, SHEET_TAPE_ENDED. SHEET_LENGTHS is that any of the four slices has another length;
@@ -85,6 +86,12 @@ size_t timed_check(const uint64_t *slots, size_t slots_len, const uint16_t *coun
 size_t timed_board(const uint64_t *slots, size_t slots_len, const uint16_t *counts, size_t counts_len, const uint16_t *tallies,
                    size_t tallies_len, const uint64_t *balance, size_t balance_len, const uint64_t *ranks, size_t ranks_len, uint64_t *output,
                    size_t output_len, uint64_t *answer, size_t answer_len);
+
+/* Puts the counts, the tallies and the third slice of the timed sheet that has these slots and this size parameter, counts[0], into the store, and
+ * gives N. Slots and counts[0] are not written. A timed sheet comes through unaltered. SHEET_LENGTHS, then SHEET_NOT_MENDABLE exactly where there is no
+ * such timed sheet: also where the keys do not rise. sheet.h says when to use it, and what it cannot tell. */
+size_t timed_mend(const uint64_t *slots, size_t slots_len, uint16_t *counts, size_t counts_len, uint16_t *tallies, size_t tallies_len,
+                  uint64_t *balance, size_t balance_len, uint64_t *answer, size_t answer_len);
 
 #ifdef __cplusplus
 }

@@ -1,7 +1,7 @@
 //! One table: what each call costs in the proved library, in C and in Rust,
 //! beside a bare scan of the store's bytes; then the calls on timed sheets, in
 //! the proved library and in C; then a table of boards beside single reads
-//! ([`boards`]).
+//! ([`boards`]), and one of mending beside checks ([`mends`]).
 //!
 //! Every row is measured many times, the sides in turn and on equal stores with
 //! equal arguments and tapes. A row shows the median of each side. The ratio is
@@ -21,6 +21,7 @@
 
 mod boards;
 mod compare;
+mod mends;
 mod plain;
 mod sides;
 mod timed_sheets;
@@ -390,5 +391,7 @@ fn main() -> ExitCode {
     println!("{} 1.25 times its goal in scans", said(within.goal));
     println!();
     boards::table(times, &mut random);
+    println!();
+    mends::table(times, &mut random);
     ExitCode::from(u8::from(!(within.side && within.goal)))
 }

@@ -13,9 +13,9 @@ use std::hint::black_box;
 const TRIALS: usize = 400;
 
 #[derive(Clone, Debug, PartialEq, Eq)]
-struct TimedStore {
-    plain: Store,
-    balance: Vec<u64>,
+pub struct TimedStore {
+    pub plain: Store,
+    pub balance: Vec<u64>,
 }
 
 impl TimedStore {
@@ -31,7 +31,7 @@ impl TimedStore {
 }
 
 /// The calls that are measured, and delete, each with all of its checks.
-trait TimedSide {
+pub trait TimedSide {
     fn check(store: &TimedStore) -> Returned;
     fn find(store: &TimedStore, entry: u64) -> Returned;
     fn insert(store: &mut TimedStore, entry: u64, tape: &[u32]) -> Returned;
@@ -264,7 +264,7 @@ fn measure<S: TimedSide>(n: usize, stores: &mut [TimedStore], arguments: &[Argum
 }
 
 /// The stores that are measured, of n entries each.
-fn sheets(n: usize, random: &mut SplitMix64) -> Vec<TimedStore> {
+pub fn sheets(n: usize, random: &mut SplitMix64) -> Vec<TimedStore> {
     let mut stores = vec![TimedStore::empty(); STORES];
     for store in &mut stores {
         for a in Arguments::list(random, n) {

@@ -1,6 +1,7 @@
 /* A small display program: enters boats, two of them in a dead heat, strikes one out, and prints place, points and sail number of each; then
- * one retires; then a notice board; then stores that are refused; then a full sheet, half of it retired; then a store from before the tree order
- * and the tallies; then the kinds of some lines, and what frames are answered by on a cleared sheet. */
+ * one retires; then a notice board; then stores that are refused; then a spoiled sheet that is mended, and stores that cannot be; then a full
+ * sheet, half of it retired; then a store from before the tree order and the tallies; then the kinds of some lines, and what frames are answered
+ * by on a cleared sheet. */
 #include "frames.h"
 #include "points.h"
 #include "sheet.h"
@@ -102,6 +103,36 @@ static void refusals(void) {
     printf("tallies too short: %zu\n", sheet_check(slots, SHEET_SLOTS, counts, SHEET_COUNTS, tallies, SHEET_TALLIES - 1, answer, 2));
 }
 
+/* Spoils all counts but the size parameter, and all tallies, mends the sheet, and says whether they are as before. */
+static void mend(void) {
+    uint16_t counts_before[SHEET_COUNTS], tallies_before[SHEET_TALLIES];
+    uint16_t m = counts[0];
+    int same;
+
+    memcpy(counts_before, counts, sizeof counts);
+    memcpy(tallies_before, tallies, sizeof tallies);
+    memset(counts, 0x5A, sizeof counts);
+    memset(tallies, 0xA5, sizeof tallies);
+    counts[0] = m;
+    printf("spoiled: %zu", sheet_check(STORE, answer, 2));
+    printf(", mended: %zu", sheet_mend(STORE, answer, 2));
+    same = memcmp(counts, counts_before, sizeof counts) == 0 && memcmp(tallies, tallies_before, sizeof tallies) == 0;
+    printf(", %" PRIu64 " boats, %s\n", answer[0], same ? "as before" : "not as before");
+}
+
+/* Stores that cannot be mended: the first boat is lost, which stands in slot 0 of a sheet of few boats, or the size parameter is. */
+static void not_mendable(void) {
+    uint64_t entry = slots[0];
+    uint16_t m = counts[0];
+
+    slots[0] = 0;
+    printf("the first boat lost: %zu\n", sheet_mend(STORE, answer, 2));
+    slots[0] = entry;
+    counts[0] = 0;
+    printf("the size parameter lost: %zu\n", sheet_mend(STORE, answer, 2));
+    counts[0] = m;
+}
+
 /* Enters boats in front until the sheet is full, every second one retired; adds up the places of the others and strikes the first half out; then
  * looks at those that stay. */
 static void fill(void) {
@@ -126,6 +157,7 @@ static void fill(void) {
             return;
         }
     printf("the last %" PRIu64 " boats stay, %u of them score\n", answer[0], (unsigned)tallies[1]);
+    mend();
 }
 
 /* A store from before the tree order and the tallies, in which no boat has retired. Its size parameter is above 64: no call but clear takes it
@@ -166,6 +198,9 @@ int main(void) {
     retire();
     board();
     refusals();
+    mend();
+    display();
+    not_mendable();
 
     printf("rank too high: %zu\n", sheet_place(STORE, n, answer, 3));
     printf("no tape: %zu\n", sheet_insert(STORE, 0, 5, tape, 0, answer, 2));

@@ -1,12 +1,14 @@
 /* A small display program for timed finishes: enters boats in the order in which their finishes come in, two of them in a dead heat, asks for
  * some of them, strikes one out, and prints place, points, time and sail number of each; then one retires; then a notice board; then causes
- * that a call is refused by; then a full sheet, some boats of which have retired and each of which is found. */
+ * that a call is refused by; then a spoiled sheet that is mended, and stores that cannot be; then a full sheet, some boats of which have
+ * retired and each of which is found. */
 #include "points.h"
 #include "tape.h"
 #include "timed.h"
 
 #include <inttypes.h>
 #include <stdio.h>
+#include <string.h>
 
 static uint64_t slots[SHEET_SLOTS];
 static uint16_t counts[SHEET_COUNTS];
@@ -133,6 +135,38 @@ static void refusals(void) {
     balance[0] = 0;
 }
 
+/* Spoils all counts but the size parameter, all tallies and the third slice, mends the sheet, and says whether they are as before. */
+static void mend(void) {
+    uint16_t counts_before[SHEET_COUNTS], tallies_before[SHEET_TALLIES];
+    uint64_t balance_before[TIMED_BALANCE];
+    uint16_t m = counts[0];
+    int same;
+
+    memcpy(counts_before, counts, sizeof counts);
+    memcpy(tallies_before, tallies, sizeof tallies);
+    memcpy(balance_before, balance, sizeof balance);
+    memset(counts, 0x5A, sizeof counts);
+    memset(tallies, 0xA5, sizeof tallies);
+    memset(balance, 0x3C, sizeof balance);
+    counts[0] = m;
+    printf("spoiled: %zu", timed_check(STORE, answer, 2));
+    printf(", mended: %zu", timed_mend(STORE, answer, 2));
+    same = memcmp(counts, counts_before, sizeof counts) == 0 && memcmp(tallies, tallies_before, sizeof tallies) == 0 &&
+           memcmp(balance, balance_before, sizeof balance) == 0;
+    printf(", %" PRIu64 " boats, %s\n", answer[0], same ? "as before" : "not as before");
+}
+
+/* Stores that cannot be mended: the first boat, which stands in slot 0 of a sheet of few boats, is lost, or her time is behind the next one's. */
+static void not_mendable(void) {
+    uint64_t entry = slots[0];
+
+    slots[0] = 0;
+    printf("the first boat lost: %zu\n", timed_mend(STORE, answer, 2));
+    slots[0] = finish(3606, 2024);
+    printf("times that fall: %zu\n", timed_mend(STORE, answer, 2));
+    slots[0] = entry;
+}
+
 /* The boat that comes in as number i of a full sheet: every sail number from 1 to SHEET_ENTRIES once, out of order. Boats of the same time
  * tied. Of each 16 boats two have retired, one between boats that tied and one before such boats. */
 static uint64_t boat(size_t i) {
@@ -188,6 +222,7 @@ static void fill(void) {
         delete(0);
     accepted("check", timed_check(STORE, answer, 2));
     printf("%" PRIu64 " boats stay\n", answer[0]);
+    mend();
     ask(3600 + SHEET_ENTRIES / 8, SHEET_ENTRIES / 2);
     ask(3600 + SHEET_ENTRIES / 8, SHEET_ENTRIES / 2 + 1);
 }
@@ -196,6 +231,9 @@ int main(void) {
     race();
     board();
     refusals();
+    mend();
+    display();
+    not_mendable();
     fill();
     if (words_drawn != words_read + waiting)
         printf("a word was lost, or read by two calls\n");

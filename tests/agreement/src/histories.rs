@@ -1,5 +1,5 @@
-//! Random histories of calls, with refused calls, boats that retire and conversions
-//! of the order of the counts among them.
+//! Random histories of calls, with refused calls, boats that retire, conversions of
+//! the order of the counts and mending of good sheets among them.
 
 use crate::boards::board;
 use crate::{stores, Both, Call, Returned, Store};
@@ -85,6 +85,7 @@ fn some_call(random: &mut SplitMix64, n: usize, target: usize, bits: Bits) -> Ca
             let (ranks, output) = board(random, n);
             Call::Board { ranks, output }
         }
+        9 => Call::Mend,
         _ if (n < target) == (random.below(8) != 0) => Call::Insert {
             rank: rank(random, n),
             entry: entry(random, bits),

@@ -69,6 +69,7 @@ pub enum Call {
     Board { ranks: Vec<u64>, output: Vec<u64> },
     Place { rank: usize },
     Check,
+    Mend,
     ToTreeOrder,
     ToNumberOrder,
 }
@@ -129,6 +130,7 @@ impl Lent for Store {
             }
             Call::Place { rank } => calls::place(slots, counts, tallies, *rank),
             Call::Check => calls::check(slots, counts, tallies),
+            Call::Mend => calls::mend(slots, counts, tallies),
             Call::ToTreeOrder => conversions::to_tree_order(counts),
             Call::ToNumberOrder => conversions::to_number_order(counts),
         };

@@ -90,6 +90,16 @@ extern "C" {
         answer: *mut u64,
         answer_len: usize,
     ) -> usize;
+    fn sheet_mend(
+        slots: *const u64,
+        slots_len: usize,
+        counts: *mut u16,
+        counts_len: usize,
+        tallies: *mut u16,
+        tallies_len: usize,
+        answer: *mut u64,
+        answer_len: usize,
+    ) -> usize;
     fn sheet_to_tree_order(counts: *mut u16, counts_len: usize, answer: *mut u64, answer_len: usize) -> usize;
     fn sheet_to_number_order(counts: *mut u16, counts_len: usize, answer: *mut u64, answer_len: usize) -> usize;
     fn frame_kind(line: *const u8, line_len: usize) -> u8;
@@ -137,6 +147,7 @@ pub fn call_with(call: &Call, store: &mut Store, room: usize) -> (u64, Vec<u64>,
             }
             Call::Place { rank } => sheet_place(s, s_len, c, c_len, t, t_len, *rank, a, a_len),
             Call::Check => sheet_check(s, s_len, c, c_len, t, t_len, a, a_len),
+            Call::Mend => sheet_mend(s, s_len, c, c_len, t, t_len, a, a_len),
             Call::ToTreeOrder => sheet_to_tree_order(c, c_len, a, a_len),
             Call::ToNumberOrder => sheet_to_number_order(c, c_len, a, a_len),
         }

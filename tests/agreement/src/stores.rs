@@ -7,6 +7,7 @@ use reference::layout::{Node, Shape, COUNTS, SIZE, SLOTS, TALLIES};
 use reference::places::{RETIRED, TIED};
 use reference::random::SplitMix64;
 use std::collections::BTreeSet;
+use std::ops::Range;
 
 /// A tape that suffices for any call.
 pub fn tape(random: &mut SplitMix64) -> Vec<u32> {
@@ -33,14 +34,20 @@ pub fn sheet_of_size(list: &[u64], m: usize, random: &mut SplitMix64) -> Store {
 /// The same with given balance entries: `chosen` is given a range and the number of its
 /// candidates, and tells which candidate, from 0.
 pub fn sheet_by(list: &[u64], m: usize, mut chosen: impl FnMut(Node, usize) -> usize) -> Store {
+    split_by(list, m, |node, candidates| candidates.start + chosen(node, candidates.len()))
+}
+
+/// The same with any balance entries, which may be no candidates: `position` is given a
+/// range and the positions of its candidates among its entries, and tells that of the
+/// balance entry.
+pub fn split_by(list: &[u64], m: usize, mut position: impl FnMut(Node, Range<usize>) -> usize) -> Store {
     let shape = Shape::of(m);
     let (mut slots, mut counts) = ([0; SLOTS], [0; COUNTS]);
     counts[SIZE] = m as u16;
     shape.set_count(&mut counts, Node::ROOT, list.len());
     for node in (0..shape.height).flat_map(Node::all_at) {
         let n = shape.count(&counts, node);
-        let candidates = shape.candidate_positions(node.depth, n);
-        let balance = candidates.start + chosen(node, candidates.len());
+        let balance = position(node, shape.candidate_positions(node.depth, n));
         shape.set_count(&mut counts, node.left(), balance);
         shape.set_count(&mut counts, node.right(), n - balance);
     }

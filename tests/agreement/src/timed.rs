@@ -16,6 +16,7 @@ pub enum Call {
     Board { ranks: Vec<u64>, output: Vec<u64> },
     Place { rank: usize },
     Check,
+    Mend,
 }
 
 #[derive(Clone, PartialEq, Eq)]
@@ -90,6 +91,7 @@ impl Lent for Store {
             }
             Call::Place { rank } => timed::place(slots, counts, tallies, balance, *rank),
             Call::Check => timed::check(slots, counts, tallies, balance),
+            Call::Mend => timed::mend(slots, counts, tallies, balance),
         };
         (returned(answer), out)
     }
@@ -226,6 +228,18 @@ extern "C" {
         answer: *mut u64,
         answer_len: usize,
     ) -> usize;
+    fn timed_mend(
+        slots: *const u64,
+        slots_len: usize,
+        counts: *mut u16,
+        counts_len: usize,
+        tallies: *mut u16,
+        tallies_len: usize,
+        balance: *mut u64,
+        balance_len: usize,
+        answer: *mut u64,
+        answer_len: usize,
+    ) -> usize;
 }
 
 /// The proved call with an answer slice of this length: what it returns, the
@@ -256,6 +270,7 @@ fn call_with(call: &Call, store: &mut Store, room: usize) -> (u64, Vec<u64>, Vec
             }
             Call::Place { rank } => timed_place(s, s_len, c, c_len, t, t_len, b, b_len, *rank, a, a_len),
             Call::Check => timed_check(s, s_len, c, c_len, t, t_len, b, b_len, a, a_len),
+            Call::Mend => timed_mend(s, s_len, c, c_len, t, t_len, b, b_len, a, a_len),
         }
     };
     (number as u64, answer, out)

@@ -1,4 +1,5 @@
-//! Random timed histories, with refused calls and boats that retire among them.
+//! Random timed histories, with refused calls, boats that retire and mending of good
+//! sheets among them.
 
 use crate::boards::board;
 use crate::histories::{rank, tape, with_bits, Bits, Met};
@@ -40,6 +41,7 @@ fn some_call(random: &mut SplitMix64, store: &Store, target: usize, bits: Bits) 
             let (ranks, output) = board(random, n);
             Call::Board { ranks, output }
         }
+        13 => Call::Mend,
         _ if (n < target) == (random.below(8) != 0) => Call::Insert {
             entry: entry(random, store, bits),
             tape: tape(random),

@@ -46,6 +46,7 @@ fn calls(retired: usize) -> Vec<Call> {
     vec![
         Call::Clear,
         Call::Check,
+        Call::Mend,
         Call::Insert { rank: 7, entry: 3, tape: tape() },
         Call::Insert { rank: 7, entry: 0, tape: tape() },
         Call::Insert { rank: 101, entry: 3, tape: tape() },
@@ -94,6 +95,7 @@ fn timed_calls(there: u64, retired: usize) -> Vec<timed::Call> {
     vec![
         Call::Clear,
         Call::Check,
+        Call::Mend,
         Call::Insert { entry: 3, tape: tape() },
         Call::Insert { entry: 0, tape: tape() },
         Call::Insert { entry: there, tape: tape() },

@@ -8,7 +8,11 @@ use reference::layout::{Shape, SIZE, TALLIES};
 use reference::places::RETIRED;
 use reference::random::SplitMix64;
 
-const REFUSED_2: [u64; 7] = [2, 2, 2, 2, 2, 2, 0];
+/// What the eight calls return where counts or tallies alone are wrong: clear and mend
+/// accept the store.
+const REFUSED_2: [u64; 8] = [2, 2, 2, 2, 2, 2, 0, 0];
+/// The same where no sheet has these slots and this M.
+const NOT_MENDABLE: [u64; 8] = [2, 2, 2, 2, 2, 2, 0, 18];
 
 /// A sheet of n entries.
 fn sheet(seed: u64, n: usize) -> Store {
@@ -24,9 +28,9 @@ fn sheet(seed: u64, n: usize) -> Store {
     both.store
 }
 
-/// The seven calls on a store, each from the start: the numbers of their causes. A
+/// The eight calls on a store, each from the start: the numbers of their causes. A
 /// refused call leaves the store as it was.
-fn all_calls(seed: u64, store: &Store) -> [u64; 7] {
+fn all_calls(seed: u64, store: &Store) -> [u64; 8] {
     let words = tape(&mut SplitMix64::new(seed));
     [
         Call::Check,
@@ -36,6 +40,7 @@ fn all_calls(seed: u64, store: &Store) -> [u64; 7] {
         Call::Board { ranks: vec![0, 0], output: vec![5; 3] },
         Call::Place { rank: 0 },
         Call::Clear,
+        Call::Mend,
     ]
     .map(|call| {
         let mut both = Both::new(seed, store.clone());
@@ -165,9 +170,9 @@ fn leaf_rule_of_document_01() {
             let same = store == sheet;
             assert_eq!(same, n == m && m <= 64, "N {n} M {m}");
             let numbers = match (same, n) {
-                (false, _) => REFUSED_2,
-                (true, 0) => [0, 0, 4, 4, 4, 4, 0],
-                (true, _) => [0; 7],
+                (false, _) => NOT_MENDABLE,
+                (true, 0) => [0, 0, 4, 4, 4, 4, 0, 0],
+                (true, _) => [0; 8],
             };
             assert_eq!(all_calls(61, &store), numbers, "N {n} M {m}");
             accepted += u32::from(same);
@@ -221,7 +226,7 @@ fn wrong_lengths() {
             store.slots.resize(slots, 0);
             store.counts.resize(counts, 0);
             store.tallies.resize(tallies, 0);
-            assert_eq!(all_calls(21, &store), [1; 7], "{slots} slots, {counts} counts, {tallies} tallies");
+            assert_eq!(all_calls(21, &store), [1; 8], "{slots} slots, {counts} counts, {tallies} tallies");
         }
     }
 }

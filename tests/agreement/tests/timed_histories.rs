@@ -31,7 +31,7 @@ fn from_one_range_to_many() {
 
 #[test]
 fn full_and_back() {
-    histories(5200..5204, 20_000, FULL, &[0, 2, 3, 4, 5, 6, 7, 10, 16]);
+    histories(5203..5207, 20_000, FULL, &[0, 2, 3, 4, 5, 6, 7, 10, 16]);
 }
 
 /// The list of a sheet does not depend on the order of the inserts.

@@ -16,8 +16,12 @@ use reference::timed::BALANCE;
 
 /// An entry below all those of a sheet made here.
 const LOWEST: u64 = 3;
-const REFUSED_2: [u64; 8] = [2, 2, 2, 2, 2, 2, 2, 0];
-const REFUSED_11: [u64; 8] = [11, 11, 11, 11, 11, 11, 11, 0];
+/// What the nine calls return where counts or tallies are wrong, and where the third
+/// slice alone is: clear and mend accept the store.
+const REFUSED_2: [u64; 9] = [2, 2, 2, 2, 2, 2, 2, 0, 0];
+const REFUSED_11: [u64; 9] = [11, 11, 11, 11, 11, 11, 11, 0, 0];
+/// The same where the list is that of no timed sheet.
+const NOT_MENDABLE: [u64; 9] = [11, 11, 11, 11, 11, 11, 11, 0, 18];
 /// An entry with these bits alone has no key.
 const BITS: [u64; 3] = [TIED, RETIRED, TIED | RETIRED];
 
@@ -29,9 +33,9 @@ fn sheet(seed: u64, n: usize) -> Store {
     Store::of_size(&list, m, &mut random)
 }
 
-/// The eight calls on a store, each from the start: the numbers of their causes.
+/// The nine calls on a store, each from the start: the numbers of their causes.
 /// A refused call leaves the store as it was.
-fn all_calls(seed: u64, store: &Store) -> [u64; 8] {
+fn all_calls(seed: u64, store: &Store) -> [u64; 9] {
     let words = tape(&mut SplitMix64::new(seed));
     [
         Call::Check,
@@ -42,6 +46,7 @@ fn all_calls(seed: u64, store: &Store) -> [u64; 8] {
         Call::Board { ranks: vec![0, 0], output: vec![5; 3] },
         Call::Place { rank: 0 },
         Call::Clear,
+        Call::Mend,
     ]
     .map(|call| {
         let mut both = Both::new(seed, store.clone());
@@ -180,7 +185,7 @@ fn entries_that_do_not_rise() {
             let m = n + random.below(n);
             for list in [falls, stays, ties] {
                 let store = Store::of_size(&list, m, &mut random);
-                assert_eq!(all_calls(6040, &store), REFUSED_11, "N {n} M {m} rank {rank}");
+                assert_eq!(all_calls(6040, &store), NOT_MENDABLE, "N {n} M {m} rank {rank}");
             }
         }
     }
@@ -195,7 +200,7 @@ fn entries_without_a_key() {
             let mut list = rising(n, Bits::SOME, &mut random);
             list[0] = bits;
             let store = Store::of_size(&list, m, &mut random);
-            assert_eq!(all_calls(6045, &store), REFUSED_11, "N {n} M {m}");
+            assert_eq!(all_calls(6045, &store), NOT_MENDABLE, "N {n} M {m}");
             let check = Both::new(6045, store.plain()).call(agreement::Call::Check);
             assert_eq!(check, [0, n as u64, 0, 0], "N {n} M {m}");
         }
@@ -281,7 +286,7 @@ fn wrong_lengths() {
             store.counts.resize(counts, 0);
             store.tallies.resize(tallies, 0);
             store.balance.resize(balance, 0);
-            assert_eq!(all_calls(6071, &store), [1; 8], "{slots} slots, {counts} counts, {tallies} tallies, {balance} words");
+            assert_eq!(all_calls(6071, &store), [1; 9], "{slots} slots, {counts} counts, {tallies} tallies, {balance} words");
         }
     }
 }

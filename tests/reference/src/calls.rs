@@ -1,8 +1,9 @@
-//! The seven calls on lent slices (01, "Causes and numbers"; 02, F-3, F-9, F-11).
+//! The eight calls on lent slices (01, "Causes and numbers"; 02, F-3, F-9, F-11, F-13).
 
 use crate::board::board_of;
 use crate::coins::{Source, Tape};
 use crate::layout::{sheet_in, Counts, Node, Shape, Sheet, Slots, Tallies, ROOT};
+use crate::mend::Mended;
 use crate::places::{standing, Standing};
 use crate::rules::{plan, Change, Plan};
 use crate::sizes::MAX_ENTRIES;
@@ -19,6 +20,9 @@ pub enum Cause {
     /// straight after 2". By F-3 and F-11 also an entry on the sheet that is zero
     /// without bits 63 and 62.
     NotTimed = 11,
+    /// 02, F-13: "exactly when no sheet (for a timed store, no timed sheet) has these
+    /// slots and this M, in place of 2 and 11."
+    NotMendable = 18,
     /// Entry zero; on a timed sheet zero without bits 63 and 62.
     EntryZero = 3,
     /// 02, F-1: "the entry is already there", "after 3".
@@ -60,6 +64,8 @@ pub enum Answer {
     Placed { place: usize, sum: usize, t: usize },
     /// Check: N.
     Checked { n: usize },
+    /// Mend: N.
+    Mended { n: usize },
     /// A conversion of the order of the counts: M.
     Converted { m: usize },
     /// Find, where the entry is there: its rank.
@@ -87,7 +93,7 @@ impl Answer {
             Answer::Changed { n, words } => [n, words, 0],
             Answer::Read { entries } => [entries, 0, 0],
             Answer::Placed { place, sum, t } => [place, sum, t],
-            Answer::Checked { n } => [n, 0, 0],
+            Answer::Checked { n } | Answer::Mended { n } => [n, 0, 0],
             Answer::Converted { m } => [m, 0, 0],
             Answer::Found { rank } => [1, rank, 0],
             Answer::Absent { rank } => [0, rank, 0],
@@ -254,6 +260,15 @@ pub fn check(slots: &[u64], counts: &[u16], tallies: &[u16]) -> Answer {
     lent(slots, counts, tallies)
         .and_then(|(slots, counts, tallies)| checked(slots, counts, tallies))
         .map(|sheet| Answer::Checked { n: sheet.n })
+        .into()
+}
+
+/// Puts in the counts and the tallies of the sheet that has these slots and this M
+/// (02, F-13).
+pub fn mend(slots: &[u64], counts: &mut [u16], tallies: &mut [u16]) -> Answer {
+    lent(slots, counts, tallies)
+        .and_then(|(slots, counts, _)| Mended::of(slots, counts))
+        .map(|mended| mended.put_in(counts, tallies))
         .into()
 }
 

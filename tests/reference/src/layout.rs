@@ -107,22 +107,34 @@ impl Shape {
         usize::from(tallies[usize::from(self.places[node.number])])
     }
 
+    /// The counts that belong to these slots, M at number 0. 01: "Each count is the
+    /// number of entries in its range."
+    pub fn counts(&self, slots: &Slots) -> Counts {
+        let mut counts = self.numbers(slots, |_| true);
+        counts[SIZE] = self.m as u16;
+        counts
+    }
+
     /// The tallies that belong to these slots. 02, F-11: "Each range gets the number
-    /// of its scoring entries", "its number 0 is zero". Those of a leaf are counted
-    /// in its slots; a range above has those of both its halves.
+    /// of its scoring entries", "its number 0 is zero".
     pub fn tallies(&self, slots: &Slots) -> Tallies {
-        let mut tallies = [0; TALLIES];
+        self.numbers(slots, scores)
+    }
+
+    /// The number of such entries of each range, at the range's place. Those of a leaf
+    /// are counted in its slots; a range above has those of both its halves.
+    fn numbers(&self, slots: &Slots, such: impl Fn(u64) -> bool) -> Counts {
+        let mut numbers = [0; COUNTS];
         for node in (0..=self.height).rev().flat_map(Node::all_at) {
-            let scoring = if node.depth == self.height {
+            let number = if node.depth == self.height {
                 let leaf = &slots[self.slots_under(node)];
-                let scoring = leaf.iter().filter(|&&slot| slot != 0 && scores(slot));
-                scoring.count()
+                leaf.iter().filter(|&&slot| slot != 0 && such(slot)).count()
             } else {
-                self.tally(&tallies, node.left()) + self.tally(&tallies, node.right())
+                self.count(&numbers, node.left()) + self.count(&numbers, node.right())
             };
-            tallies[usize::from(self.places[node.number])] = scoring as u16;
+            self.set_count(&mut numbers, node, number);
         }
-        tallies
+        numbers
     }
 
     /// The number of the scoring entries before a rank below N. 02, F-11: "found on
@@ -355,9 +367,9 @@ mod tests {
         }
     }
 
-    /// Slots that no leaf uses hold entries too: no tally counts them.
+    /// Slots that no leaf uses hold entries too: no count and no tally has them.
     #[test]
-    fn tallies_count_the_scoring_entries_of_each_range() {
+    fn counts_and_tallies_of_each_range() {
         let mut random = SplitMix64::new(1);
         let slots: Slots = std::array::from_fn(|_| match random.below(3) {
             0 => 0,
@@ -365,17 +377,22 @@ mod tests {
         });
         for m in [0, 1, 2, 64, 65, 112, 128, 129, 700, 1407, 1408, 2047] {
             let shape = Shape::of(m);
-            let mut expected = [0; TALLIES];
+            let (mut counts, mut tallies) = ([0; COUNTS], [0; TALLIES]);
+            counts[0] = m as u16;
             for range in 1..2 * shape.leaves() {
                 let node = Node {
                     number: range,
                     depth: (usize::BITS - 1 - range.leading_zeros()) as usize,
                 };
                 let held = slots[shape.slots_under(node)].iter();
-                let scoring = held.filter(|&&slot| slot != 0 && slot & RETIRED == 0);
-                expected[order::place(range, shape.height + 1)] = scoring.count() as u16;
+                let entries = held.filter(|&&slot| slot != 0);
+                let scoring = entries.clone().filter(|&&slot| slot & RETIRED == 0);
+                let place = order::place(range, shape.height + 1);
+                counts[place] = entries.count() as u16;
+                tallies[place] = scoring.count() as u16;
             }
-            assert_eq!(shape.tallies(&slots), expected, "M {m}");
+            assert_eq!(shape.counts(&slots), counts, "M {m}");
+            assert_eq!(shape.tallies(&slots), tallies, "M {m}");
         }
     }
 }

@@ -161,7 +161,8 @@ pub fn every_course<T>(mut act: impl FnMut(&mut Course) -> T) -> Vec<(T, Share)>
     }
 }
 
-/// One of the seven calls, with its arguments, tapes apart.
+/// One of the seven calls of a history, with its arguments, tapes apart. 02, F-13:
+/// "Mending is no part of a history whose shares are compared."
 #[derive(Clone, Copy, Debug, PartialEq, Eq)]
 pub enum Call {
     Clear,

@@ -1,11 +1,12 @@
-//! Timed sheets (02, F-1, F-3, F-9, F-11): a sheet whose entries rise strictly, with
-//! a third slice that holds the balance entries as they stand. Rules, layout and
+//! Timed sheets (02, F-1, F-3, F-9, F-11, F-13): a sheet whose entries rise strictly,
+//! with a third slice that holds the balance entries as they stand. Rules, layout and
 //! coins are those of a plain sheet: each call here rests on that of [`calls`].
 
 use crate::board::board_of;
 use crate::calls::{self, list, Answer, Cause};
 use crate::coins::{Source, Tape};
 use crate::layout::{Counts, Node, Sheet, Slots, Tallies};
+use crate::mend::Mended;
 use crate::places::{RETIRED, TIED};
 use std::cmp::Ordering;
 
@@ -123,6 +124,34 @@ pub fn check(slots: &[u64], counts: &[u16], tallies: &[u16], balance: &[u64]) ->
     open(slots, counts, tallies, balance)
         .map(|timed| Answer::Checked { n: timed.sheet.n })
         .into()
+}
+
+/// Puts in the counts, the tallies and the third slice of the timed sheet that has
+/// these slots and this M.
+pub fn mend(slots: &[u64], counts: &mut [u16], tallies: &mut [u16], balance: &mut [u64]) -> Answer {
+    mended(slots, counts, tallies, balance)
+        .map(|(mended, third_slice)| {
+            balance.copy_from_slice(&third_slice);
+            mended.put_in(counts, tallies)
+        })
+        .into()
+}
+
+/// What mending puts in, or the cause 1 or 18.
+fn mended(
+    slots: &[u64],
+    counts: &[u16],
+    tallies: &[u16],
+    balance: &[u64],
+) -> Result<(Mended, Balance), Cause> {
+    if balance.len() != BALANCE {
+        return Err(Cause::Lengths);
+    }
+    let (slots, counts, _) = calls::lent(slots, counts, tallies)?;
+    let mended = Mended::of(slots, counts)?;
+    let third_slice = third_slice_in(slots, &mended.counts);
+    open(slots, &mended.counts, &mended.tallies, &third_slice).map_err(|_| Cause::NotMendable)?;
+    Ok((mended, third_slice))
 }
 
 /// Insert with coins from any source: the new N, or the cause of a refusal.

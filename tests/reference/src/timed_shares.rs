@@ -8,7 +8,7 @@ use crate::shares::{self, after_step, every_course, table_of, without_last_zeros
 use crate::shares::{Share, SheetKey};
 use crate::timed::{self, Balance, BALANCE};
 
-/// One of the eight calls of a timed sheet, with its arguments, tapes apart.
+/// One of the eight calls of a timed history, with its arguments, tapes apart.
 #[derive(Clone, Copy, Debug, PartialEq, Eq)]
 pub enum Call {
     Clear,

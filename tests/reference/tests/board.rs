@@ -14,12 +14,7 @@ use reference::timed_shares::Store;
 /// What stands in an output before a board: no entry of a sheet here.
 const HELD: u64 = 0x55;
 
-/// The list 1000, 2000, …, each with bits 63 and 62 by its rank.
-fn boats(n: u64) -> Vec<u64> {
-    (0..n).map(|k| 1000 * (k + 1) | (k % 4) << 62).collect()
-}
-
-/// A timed sheet of that list, of a random size and with random balance entries.
+/// A timed sheet of n boats, of a random size and with random balance entries.
 fn sheet_of_boats(n: u64, random: &mut SplitMix64) -> Store {
     let m = n as usize + random.below((n as usize).max(1));
     lay_out_timed(&boats(n), m, |_, _, c| random.below(c))

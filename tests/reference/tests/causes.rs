@@ -1,5 +1,6 @@
 //! Causes 1 to 7 (01, "Causes and numbers"): each by itself, their order, and
-//! that a refused call changes nothing. Boards stand in `board.rs`, but for 1 and 2.
+//! that a refused call changes nothing. Boards stand in `board.rs`, but for 1 and 2,
+//! and mending in `mend.rs`.
 
 mod common;
 
@@ -11,7 +12,7 @@ use reference::random::SplitMix64;
 use reference::shares::Store;
 use reference::sizes::Size;
 
-/// What the seven calls return on these slices with these arguments; only clear
+/// What seven calls return on these slices with these arguments; only clear
 /// may change them, and it comes last.
 fn all_calls(
     slots: &mut [u64],
@@ -208,7 +209,10 @@ fn numbers_of_the_causes() {
         Cause::TapeFull,
     ];
     assert_eq!(causes.map(Cause::number), [1, 2, 3, 4, 5, 6, 7, 8, 9]);
-    assert_eq!(Cause::Board.number(), 16);
+    assert_eq!(
+        [Cause::Board, Cause::NotMendable].map(Cause::number),
+        [16, 18]
+    );
 }
 
 /// Every store one change away from a sheet is judged as its layout says.

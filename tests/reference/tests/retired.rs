@@ -264,7 +264,7 @@ fn tallies_without_retired_boats() {
     }
 }
 
-/// The seven calls on a copy of the store, the eight on one with a third slice:
+/// Seven calls on a copy of the store, eight on one with a third slice:
 /// all but clear meet cause 2 and change nothing.
 fn refuse(store: &TimedStore) {
     let refused = Answer::Refused(Cause::NotASheet);

@@ -1,5 +1,6 @@
 //! Timed sheets (02, F-1, F-3, F-11): the third slice, find, causes 10 and 11 and their
-//! places among the others, and that a refused call changes nothing.
+//! places among the others, and that a refused call changes nothing. Mending stands
+//! in `mend.rs`.
 
 mod common;
 
@@ -12,7 +13,7 @@ use reference::timed::{self, balance_entries, BALANCE};
 use reference::timed_shares::Store;
 
 const LENGTHS: [usize; 11] = [0, 1, 2, 5, 33, 40, 64, 65, 100, 700, 1024];
-/// What the eight calls return where all but clear meet the cause.
+/// What eight calls return where all but clear meet the cause.
 const REFUSED_2: [u8; 8] = [2, 2, 2, 2, 2, 2, 2, 0];
 const REFUSED_11: [u8; 8] = [11, 11, 11, 11, 11, 11, 11, 0];
 
@@ -34,7 +35,7 @@ fn third_slice(words: &[u64]) -> [u64; BALANCE] {
     balance
 }
 
-/// What the eight calls return on these slices with these arguments: insert,
+/// What eight calls return on these slices with these arguments: insert,
 /// delete, find, read, board, place, check, clear. Only clear may change them.
 fn all_calls(
     (slots, counts, tallies, balance): (&mut [u64], &mut [u16], &mut [u16], &mut [u64]),

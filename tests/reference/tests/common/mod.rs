@@ -16,7 +16,10 @@ use std::collections::BTreeMap;
 pub fn height(m: usize) -> usize {
     match m {
         0..=64 => 0,
-        _ => (0..16).filter(|h| g(m) << h <= m).max().unwrap(),
+        _ => {
+            let g = g(m);
+            (0..16).filter(|h| g << h <= m).max().unwrap()
+        }
     }
 }
 
@@ -24,7 +27,7 @@ fn g(m: usize) -> usize {
     format!("{:b}", m - 1).len()
 }
 
-fn leaf_slots(m: usize) -> usize {
+pub fn leaf_slots(m: usize) -> usize {
     match m {
         0..=64 => m,
         _ => 3 * g(m),
@@ -161,9 +164,8 @@ pub fn lay_out_timed(
 
 /// A sheet with the third slice that belongs to it (02, F-1).
 pub fn with_third_slice(plain: Store) -> TimedStore {
-    let list: Vec<u64> = plain.slots.iter().copied().filter(|&e| e != 0).collect();
     let mut balance = Box::new([0; BALANCE]);
-    split_range(&plain, 1, 0, &list, &mut balance);
+    split_range(&plain, 1, 0, &entries(&plain), &mut balance);
     TimedStore { plain, balance }
 }
 
@@ -177,6 +179,11 @@ fn split_range(store: &Store, range: usize, depth: usize, list: &[u64], balance:
     balance[range] = right[0];
     split_range(store, 2 * range, depth + 1, left, balance);
     split_range(store, 2 * range + 1, depth + 1, right, balance);
+}
+
+/// The list 1000, 2000, …, each with bits 63 and 62 by its rank.
+pub fn boats(n: u64) -> Vec<u64> {
+    (0..n).map(|k| 1000 * (k + 1) | (k % 4) << 62).collect()
 }
 
 /// The list with bit 63 in the entries whose ranks are the bits of `pattern`, and
@@ -271,17 +278,24 @@ pub fn is_laid_out(store: &Store) -> bool {
     laid_out_again(store).map_or(false, |again| again == *store)
 }
 
+/// Whether a list of `n` entries can stand in a sheet of size M.
+pub fn allows(m: usize, n: usize) -> bool {
+    match n {
+        0 => m == 0,
+        _ => n <= 1024 && (n..2 * n).contains(&m),
+    }
+}
+
+/// The entries in slot order.
+pub fn entries(store: &Store) -> Vec<u64> {
+    store.slots.iter().copied().filter(|&e| e != 0).collect()
+}
+
 /// The store that the entries in slot order, count 0 and the left halves lay out:
 /// only these come in question for this store.
 pub fn laid_out_again(store: &Store) -> Option<Store> {
-    let list: Vec<u64> = store.slots.iter().copied().filter(|&e| e != 0).collect();
-    let (m, n) = (usize::from(store.counts[0]), list.len());
-    let allowed = if n == 0 {
-        m == 0
-    } else {
-        (n..2 * n).contains(&m)
-    };
-    if !allowed || n > 1024 {
+    let (m, list) = (m(store), entries(store));
+    if !allows(m, list.len()) {
         return None;
     }
     let mut all_are_candidates = true;
@@ -556,6 +570,11 @@ pub fn check(store: &Store) -> Answer {
     calls::check(&store.slots[..], &store.counts[..], &store.tallies[..])
 }
 
+pub fn mend(store: &mut Store) -> Answer {
+    let (counts, tallies) = (&mut store.counts[..], &mut store.tallies[..]);
+    calls::mend(&store.slots[..], counts, tallies)
+}
+
 pub fn place_of(store: &Store, rank: usize) -> Answer {
     let (slots, counts) = (&store.slots[..], &store.counts[..]);
     calls::place(slots, counts, &store.tallies[..], rank)
@@ -627,6 +646,12 @@ pub fn timed_place(store: &TimedStore, rank: usize) -> Answer {
 pub fn timed_check(store: &TimedStore) -> Answer {
     let (slots, counts, tallies, balance) = timed_slices(store);
     timed::check(slots, counts, tallies, balance)
+}
+
+pub fn timed_mend(store: &mut TimedStore) -> Answer {
+    let TimedStore { plain, balance } = store;
+    let (slots, counts) = (&plain.slots[..], &mut plain.counts[..]);
+    timed::mend(slots, counts, &mut plain.tallies[..], &mut balance[..])
 }
 
 fn timed_slices(store: &TimedStore) -> (&[u64], &[u16], &[u16], &[u64]) {
