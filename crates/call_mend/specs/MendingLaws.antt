@@ -1,13 +1,13 @@
 -- There is at most one sheet with given slots and size parameter, and mending finds it.
 use mathlib.Core.Path.{_≡_, refl, sym, ap, _∙_}
 use mathlib.Core.Bool.{Bool, true, false}
-use mathlib.Core.List.{List, []}
+use mathlib.Core.List.{List, [], _∷_}
 use mathlib.Core.Logic.{_↔_}
 use Prim.Native.Nat.{ℕ}
 use native.Mathlib.Omega.{arith}
 use borrow.Author.Tests.{eq-eqb, eqb-true}
 use lib.Dec.{eqb}
-use lib.ListN.{length}
+use lib.ListN.{length, replicate}
 use Rattle.base.specs.Lists.{equalLists}
 use Rattle.base.specs.BoolLaws.{and-both, not-true-false}
 use Rattle.base.specs.ListLaws.{equal-itself, equal-sound}
@@ -17,12 +17,13 @@ use Rattle.store_layout.specs.Layout.{Store, layOut}
 use Rattle.store_layout.specs.Sheet.{IsContents}
 use Rattle.store_layout.specs.Decode.{Contents}
 use Rattle.store_layout.specs.Room.{Roomy}
+use Rattle.store_layout.specs.EmptyLaws.{empty-shape, one-empty, empty-slots}
 use Rattle.store_layout.specs.SheetLaws.{size-layOut}
 use Rattle.store_sums.specs.TreeIn.{contentsIn}
 use Rattle.store_sums.specs.TreeInLaws.{contents-laid}
 use Rattle.call_outcomes.specs.declared.Cause.the-variants.{Lengths, NotMendable}
 use Rattle.call_outcomes.specs.declared.Answer.the-variants.{Mended, Refused}
-use Rattle.call_outcomes.specs.Kind.{Found, holds, wrong, View, LawfulView, SheetOf}
+use Rattle.call_outcomes.specs.Kind.{Found, holds, wrong, View, LawfulView, empty, SheetOf}
 use Rattle.call_outcomes.specs.Outcome.{Outcome, refused}
 use Rattle.call_mend.specs.Mending.{sizeOf, SameKept, sameKept, HasStore, isHeld, mendedBy, Mendable, contentsOf, restored, isRestored, mended}
 
@@ -125,6 +126,33 @@ module _ {cap : Capacity} (roomy : Roomy cap) (view : View) (has : HasStore cap 
         by-lengths false wrong-lengths =
             let no : mended view has store .answer ≡ Refused Lengths = rw wrong-lengths in
             let z : _≡_ {A = ℕ} 0 1 = cc in absurd (omega arith)
+
+    -- A store of the size parameter 0 is mendable exactly when every slot is 0.
+    pub mendable-zero : sizeOf (has .within store) ≡ 0 → Mendable view has store ↔ (has .within store .slots ≡ replicate (cap .slots) 0)
+    mendable-zero zero-size = (only-zeros, of-zeros)
+      where
+        no-entries : (list : List ℕ) (s : Shape) → IsShape (length list) s → s .size ≡ 0 → layOut cap list s .slots ≡ replicate (cap .slots) 0
+        no-entries [] s is size = rw (one-empty s is) (empty-slots cap)
+        no-entries (x ∷ list) s is size = absurd (omega (arith, is .allowed .least))
+
+        only-zeros : Mendable view has store → has .within store .slots ≡ replicate (cap .slots) 0
+        only-zeros m =
+            let laid = has .laid (m .list) (m .shape) in
+            let size = size-layOut cap (m .list) (m .shape) (is-contents store m) roomy in
+            let kept : sizeOf (layOut cap (m .list) (m .shape)) ≡ 0 = rw laid at (m .same .size) ∙ zero-size in
+            sym (rw laid at (m .same .slots)) ∙ no-entries (m .list) (m .shape) (m .is-shape) (sym size ∙ kept)
+
+        of-zeros : has .within store .slots ≡ replicate (cap .slots) 0 → Mendable view has store
+        of-zeros zeros = let plain = has .narrower [] (lawful .no-entry) in record {
+          list = [];
+          shape = empty .shape;
+          is-list = lawful .no-entry;
+          is-shape = empty-shape;
+          same = rw (has .laid [] (empty .shape)) record {
+            slots = empty-slots cap ∙ sym zeros;
+            size = size-layOut cap [] (empty .shape) record { room = plain .room; entries = plain .entries; shape = empty-shape } roomy ∙ sym zero-size;
+          };
+        }
 
     -- A sheet comes through unaltered.
     pub sheet-unaltered : (list : List ℕ) → SheetOf view list store → mended view has store ≡ record { answer = Mended (length list); store = store; output = [] }

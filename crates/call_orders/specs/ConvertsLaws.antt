@@ -3,19 +3,17 @@ use mathlib.Core.Bool.{Bool, true, false}
 use mathlib.Core.List.{List, []}
 use mathlib.Core.Path.{_≡_, refl, sym, ap}
 use Prim.Native.Nat.{ℕ}
-use native.Mathlib.Omega.{arith}
 use lib.ListN.{length}
 use Rattle.draw_shares.specs.Program.{done}
 use Rattle.draw_shares.specs.Tape.{Ran, ran, ended, runAt, afterRun}
 use Rattle.draw_shares.specs.TapeLaws.{run-bind, run-ends}
-use Rattle.base.specs.Cases.{ifLe}
-use Rattle.tree_sizes.specs.Sizes.{height}
-use Rattle.tree_rules.specs.Tree.{Balanced, Shape, IsShape}
+use Rattle.tree_rules.specs.Tree.{Shape, IsShape}
 use Rattle.tree_rules.specs.Compare.{countAfter}
 use Rattle.tree_rules.specs.Rules.{InReach, update}
 use Rattle.tree_rules.specs.ShapeLaws.{update-ends}
 use Rattle.tree_rules.specs.ChangeListLaws.{length-changed}
 use Rattle.store_layout.specs.Decode.{Contents}
+use Rattle.store_layout.specs.EmptyLaws.{empty-shape}
 use Rattle.call_outcomes.specs.Kind.{View, Calls, LawfulCalls, empty, Edit, applied, clear, change, ask, Kind, CallFor}
 use Rattle.call_outcomes.specs.Causes.{Decision, refuse, accept, byLengths, byFound, storeDecision, lookedAt, argumentCause, decision}
 use Rattle.call_outcomes.specs.Outcome.{edited, effect, answerOf, entriesOf, refused, finished, outcomeBy, outcome}
@@ -58,10 +56,6 @@ module _ (calls : Calls) (from to : View) (convert : from .Store → to .Store) 
   decision-same (ask q) store = rw (looked-same (ask q) store)
 
   -- ---- the same runs
-
-  empty-shape : IsShape 0 (empty .shape)
-  unfolding Balanced height ifLe
-  empty-shape = record { allowed = record { least = omega arith; most = omega arith }; balanced = tt }
 
   module _ (lawful : LawfulCalls (from .IsList) calls) (tape : List ℕ) where
     -- The sheet of an edited list, with whatever shape is drawn.

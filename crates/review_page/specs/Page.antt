@@ -9,7 +9,7 @@ use mathlib.Core.List.{List, [], _∷_, _++_, map}
 use mathlib.Core.Option.{some}
 use Prim.Native.Nat.{ℕ, suc, _+_, _-_, _*_, _^_, _≤_, _<_}
 use native.Mathlib.Omega.{arith}
-use lib.ListN.{length, getD, take, drop}
+use lib.ListN.{length, getD, take, drop, replicate}
 use Rattle.base.specs.Lists.{Every, total}
 use Rattle.draw_shares.specs.Program.{Among, Draws}
 use Rattle.draw_shares.specs.Fraction.{_≐_, whole, unit}
@@ -82,7 +82,7 @@ use Rattle.call_corrections.specs.TimedCorrections as timed-corrections
 use Rattle.call_readings.specs.Reading.{rankCount, plainReading, timedReading, plainBoard, timedBoard}
 use Rattle.call_readings.specs.ReadingLaws as readings
 use Rattle.call_readings.specs.BoardLaws as boards
-use Rattle.call_mend.specs.Mending.{Mendable, mended}
+use Rattle.call_mend.specs.Mending.{sizeOf, Mendable, mended}
 use Rattle.call_mend.specs.Views.{plainStore, timedStore}
 use Rattle.call_mend.specs.MendingLaws as mending
 use Rattle.timed_history.specs.Clause as timed-clause
@@ -636,6 +636,11 @@ pub sheet-unaltered : (store : PlainStore) (list : List ℕ) → ClubSheet list 
     → mended (plainView clubs) (plainStore clubs) store ≡ record { answer = Mended (length list); store = store; output = [] }
 sheet-unaltered = mending.sheet-unaltered clubs-roomy (plainView clubs) (plainStore clubs) (clubs-lawful .view)
 
+-- A store of the size parameter 0 is mendable exactly when every slot is 0.
+pub mendable-zero : (store : PlainStore) → sizeOf (store .sheet) ≡ 0
+    → Mendable (plainView clubs) (plainStore clubs) store ↔ (store .sheet .slots ≡ replicate 4224 0)
+mendable-zero = mending.mendable-zero clubs-roomy (plainView clubs) (plainStore clubs) (clubs-lawful .view)
+
 -- The same of timed sheets.
 pub timed-at-most-one : (store : TimedStore) (v w : Mendable (timedView clubs) (timedStore clubs) store)
     → layTimed clubs (v .list) (v .shape) ≡ layTimed clubs (w .list) (w .shape)
@@ -659,6 +664,10 @@ timed-mended-sheet = mending.mended-sheet clubs-roomy (timedView clubs) (timedSt
 pub timed-sheet-unaltered : (store : TimedStore) (list : List ℕ) → TimedSheet list store
     → mended (timedView clubs) (timedStore clubs) store ≡ record { answer = Mended (length list); store = store; output = [] }
 timed-sheet-unaltered = mending.sheet-unaltered clubs-roomy (timedView clubs) (timedStore clubs) (clubs-timed .view)
+
+pub timed-mendable-zero : (store : TimedStore) → sizeOf (store .sheet .sheet) ≡ 0
+    → Mendable (timedView clubs) (timedStore clubs) store ↔ (store .sheet .sheet .slots ≡ replicate 4224 0)
+timed-mendable-zero = mending.mendable-zero clubs-roomy (timedView clubs) (timedStore clubs) (clubs-timed .view)
 
 -- ---- the program
 

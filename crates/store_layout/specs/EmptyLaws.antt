@@ -21,7 +21,11 @@ use Rattle.store_order.specs.CountOrderLaws.{length-countOrder, every-countOrde
 abbrev emptyShape : Shape
 emptyShape = record { size = 0; tree = leaf }
 
--- No entries have one shape.
+-- No entries have this shape, and no other.
+pub empty-shape : IsShape 0 (record { size = 0; tree = leaf })
+unfolding Balanced height ifLe
+empty-shape = record { allowed = record { least = omega arith; most = omega arith }; balanced = tt }
+
 pub one-empty : (s : Shape) → IsShape 0 s → s ≡ record { size = 0; tree = leaf }
 unfolding Balanced
 one-empty s w =
