@@ -2,10 +2,10 @@
 use mathlib.Core.Path.{_≡_, refl, sym, ap, _∙_}
 use mathlib.Core.List.{List, _++_}
 use Prim.Native.Nat.{ℕ, suc, _+_, _-_, _*_, _^_, _≤_, _<_}
-use native.Mathlib.Nat.{mul-one, mul-zero, pow-succ', mul-le-mul-left, mul-le-mul-right}
+use native.Mathlib.Nat.{mul-one, mul-zero, pow-succ', mul-le-mul-left}
 use native.Mathlib.Omega.{arith}
 use lib.ListN.{length, take, drop, length-append, length-take}
-use lib.Pow.{pow-add, pow-mono}
+use lib.Pow.{pow-mono}
 use lib.Seq.{take-add, drop-drop}
 use Rattle.tree_sizes.specs.Sizes as sizes
 use Rattle.tree_sizes.specs.Sizes.{height, leafSlots}
@@ -13,14 +13,9 @@ use Rattle.store_layout.specs.Leaf.{nonzero}
 use Rattle.store_layout.specs.LeafLaws.{nonzero-append, nonzero-length}
 use Rattle.store_sums.specs.Range.{IsRange, rangeSlots}
 use Rattle.store_sums.specs.Numbers.{Additive, numberAt, numberBefore}
+use Rattle.store_sums.specs.IsRangeLaws.{range-from}
 
 -- ---- the numbers of ranges
-
--- The leaves of the ranges of a row are those of the tree.
-pub row-leaves : (h levels : ℕ) → levels ≤ h → 2 ^ (h - levels) * 2 ^ levels ≡ 2 ^ h
-row-leaves h levels inside =
-    let all : h - levels + levels ≡ h = omega arith in
-    sym (pow-add 2 (h - levels) levels) ∙ ap (λ (n : ℕ). 2 ^ n) all
 
 -- Each row has twice as many ranges as the one above it.
 pub row-twice : (h levels : ℕ) → levels < h → 2 ^ (h - levels) ≡ 2 * 2 ^ (h - suc levels)
@@ -29,15 +24,6 @@ row-twice h levels above =
     rw next (pow-succ' 2 (h - suc levels))
 
 module _ {M levels k : ℕ} where
-  -- The leaves of a range are leaves of the sheet.
-  pub range-start : IsRange M levels k → 2 ^ height M ≤ k * 2 ^ levels
-  range-start w = omega (arith, row-leaves (height M) levels (w .inside), mul-le-mul-right (2 ^ levels) (w .from))
-
-  pub range-end : IsRange M levels k → (k + 1) * 2 ^ levels ≤ 2 * 2 ^ height M
-  range-end w =
-      let before : k + 1 ≤ 2 * 2 ^ (height M - levels) = omega (arith, w .before) in
-      omega (arith, row-leaves (height M) levels (w .inside), mul-le-mul-right (2 ^ levels) before)
-
   -- Both halves of a range are ranges.
   module _ (w : IsRange M (suc levels) k) where
     twice : 2 ^ (height M - levels) ≡ 2 * 2 ^ (height M - suc levels)
@@ -119,7 +105,7 @@ module _ {measure : List ℕ → ℕ} (sums : Additive measure) (M : ℕ) (slots
     unfolding numberAt rangeSlots
     number-halves w =
         let size : leafSlots M * 2 ^ levels + leafSlots M * 2 ^ levels ≡ leafSlots M * 2 ^ suc levels = rw (pow-succ' 2 levels) (omega arith) in
-        sym (number-two levels (2 * k) (range-start (range-left w)) ∙ rw (same-start, size))
+        sym (number-two levels (2 * k) (range-from M levels (2 * k) (range-left w)) ∙ rw (same-start, size))
 
     -- The slots before it are those before its left half.
     pub before-left : numberBefore measure M slots (suc levels) k ≡ numberBefore measure M slots levels (2 * k)

@@ -9,7 +9,8 @@ use lib.Pow.{pow-pos}
 use Rattle.base.specs.CaseLaws.{by-le, ifLe-yes, ifLe-no}
 use Rattle.tree_sizes.specs.Sizes.{height}
 use Rattle.store_sums.specs.Range.{IsRange}
-use Rattle.store_sums.specs.SumLaws.{range-start, range-left, range-right, before-left, before-next, before-root}
+use Rattle.store_sums.specs.IsRangeLaws.{range-from}
+use Rattle.store_sums.specs.SumLaws.{range-left, range-right, before-left, before-next, before-root}
 use Rattle.store_tallies.specs.AdditiveLaws.{tally-additive}
 use Rattle.store_tallies.specs.TalliesIn.{tallyBefore, TalliesIn}
 use Rattle.store_tallies.specs.Path.{pathTally, OnPath}
@@ -77,7 +78,7 @@ module _ {M : ℕ} {slots words : List ℕ} (w : TalliesIn M slots words) (leaf 
       omega (
         arith,
         before-left tally-additive M slots levels k,
-        before-next tally-additive M slots levels (2 * k) (range-start (range-left v)),
+        before-next tally-additive M slots levels (2 * k) (range-from M levels (2 * k) (range-left v)),
         w .ranges levels (2 * k) (range-left v),
         below levels (2 * k + 1) (range-right v) h (omega arith),
       ))
