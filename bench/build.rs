@@ -1,5 +1,5 @@
-//! Links the archives that `bench/run` makes of those of `rt staticlib sheet_c`
-//! and `timed_c`, and the C side, which gcc compiles here for any x86-64.
+//! Links the archives that `bench/run` makes of those of `rt staticlib sheet_c`,
+//! `timed_c` and `federation_c`, and the C side, which gcc compiles here for any x86-64.
 
 use std::env;
 use std::path::Path;
@@ -30,7 +30,7 @@ fn main() {
     let here = Path::new(&here);
     let archive = here.join("../target/bench");
     println!("cargo:rustc-link-search=native={}", archive.display());
-    for name in ["sheet_c", "timed_c"] {
+    for name in ["sheet_c", "timed_c", "federation_c"] {
         println!("cargo:rustc-link-lib=static={name}");
         println!("cargo:rerun-if-changed={}", archive.join(format!("lib{name}.a")).display());
     }

@@ -1,7 +1,8 @@
 //! One table: what each call costs in the proved library, in C and in Rust,
 //! beside a bare scan of the store's bytes; then the calls on timed sheets, in
 //! the proved library and in C; then a table of boards beside single reads
-//! ([`boards`]), and one of mending beside checks ([`mends`]).
+//! ([`boards`]), one of mending beside checks ([`mends`]), and those of the federation's
+//! store ([`federation`]).
 //!
 //! Every row is measured many times, the sides in turn and on equal stores with
 //! equal arguments and tapes. A row shows the median of each side. The ratio is
@@ -21,6 +22,7 @@
 
 mod boards;
 mod compare;
+mod federation;
 mod mends;
 mod plain;
 mod sides;
@@ -393,5 +395,9 @@ fn main() -> ExitCode {
     boards::table(times, &mut random);
     println!();
     mends::table(times, &mut random);
-    ExitCode::from(u8::from(!(within.side && within.goal)))
+    println!();
+    let federation = federation::tables(times, &mut random);
+    println!();
+    println!("{} 1.5 times its goal in scans on the federation's store", said(federation));
+    ExitCode::from(u8::from(!(within.side && within.goal && federation)))
 }

@@ -1,7 +1,7 @@
 -- Laws of tests: a conjunction that holds, a disjunction that does not, the two cases of a test, and when two tests agree.
 use mathlib.Core.Path.{_≡_, refl, sym}
 use mathlib.Core.Bool.{Bool, true, false, _&&_, _||_}
-use mathlib.Core.Logic.{_⊎_, inl, inr}
+use mathlib.Core.Logic.{_⊎_, inl, inr, _↔_}
 use Prim.Native.Nat.{ℕ}
 use native.Mathlib.Omega.{arith}
 
@@ -35,6 +35,14 @@ neither false b h = (refl, h)
 pub true-or-false : (b : Bool) → (b ≡ true) ⊎ (b ≡ false)
 true-or-false true = inl refl
 true-or-false false = inr refl
+
+-- No test has two results.
+pub not-both : {b : Bool} → b ≡ true → b ≡ false → ⊥
+not-both yes-is no-is = let z : _≡_ {A = ℕ} 0 1 = cc in omega arith
+
+-- A test that fails tells of something that does not hold.
+pub fails : {P : Type 0} → (P → ⊥) → (false ≡ true) ↔ P
+fails h = (λ e. let z : _≡_ {A = ℕ} 0 1 = cc in absurd (omega arith), λ p. absurd (h p))
 
 pub not-true-false : (b : Bool) → (b ≡ true → ⊥) → b ≡ false
 not-true-false true h = absurd (h refl)

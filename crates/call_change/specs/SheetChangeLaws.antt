@@ -2,10 +2,10 @@
 use mathlib.Core.Path.{_≡_, refl, sym, _∙_, ap, ap₂, subst}
 use mathlib.Core.Logic.{_≢_, ⊎-elim}
 use mathlib.Core.List.{List, []}
+use mathlib.Core.Option.{none}
 use Prim.Native.Nat.{ℕ, _+_, _-_, _*_, _^_, _≤_, _<_}
 use native.Mathlib.Omega.{arith}
 use lib.ListN.{length, getD, take, drop}
-use Rattle.base.specs.Lists.{Every}
 use Rattle.draw_shares.specs.Tape.{Ran, ran, ended, runAt}
 use Rattle.draw_shares.specs.TapeLaws.{run-ends}
 use Rattle.tree_sizes.specs.Sizes.{height}
@@ -32,20 +32,25 @@ use Rattle.store_order.specs.CountOrder.{countOrder, numberOrder}
 use Rattle.store_order.specs.CountOrderLaws.{countOrder-size, number-count}
 use Rattle.store_layout.specs.Sheet.{IsContents}
 use Rattle.store_layout.specs.Decode.{Contents, numbered}
-use Rattle.store_layout.specs.Room.{CapacityReady}
+use Rattle.store_layout.specs.Room.{Roomy, CapacityReady}
 use Rattle.store_layout.specs.SheetLaws.{decode-sound, length-slots, length-counts, numbered-layOut}
-use Rattle.store_part.specs.Plan.{partFrom, partLength, PartIn, Plan}
+use Rattle.store_rows.specs.Above.{PlacedBut}
+use Rattle.store_sums.specs.Numbers.{NumbersBut, NumbersIn}
+use Rattle.store_sums.specs.LaidLaws.{counts-laid}
+use Rattle.store_sums.specs.PlacedLaws.{placed-but}
+use Rattle.store_part.specs.LeavesLaws.{kept-numbers}
+use Rattle.store_part.specs.Plan.{partFrom, partLength, firstLeaf, lastLeaf, PartIn, Plan}
 use Rattle.store_part.specs.PlanLaws.{plan}
 use Rattle.store_part.specs.LayPart.{partEntries, layEntries, layPart, LayReady}
 use Rattle.store_part.specs.KeepLaws.{slots-before, slots-behind}
-use Rattle.store_part.specs.CountBounds.{shapeCounts-every}
 use Rattle.call_outcomes.specs.declared.Cause.the-variants.{TapeEnded}
 use Rattle.call_outcomes.specs.declared.Answer.the-variants.{Changed, Refused}
 use Rattle.call_outcomes.specs.Kind.{applied}
 use Rattle.call_outcomes.specs.Outcome.{refused, outcome}
 use Rattle.call_outcomes.specs.ChangeLaws.{outcome-drawn, outcome-ended}
-use Rattle.call_outcomes.specs.PlainCalls.{plainChange, editOf, changing}
-use Rattle.call_outcomes.specs.Untallied.{untallied, storeOf, outcomeOf}
+use Rattle.call_outcomes.specs.PlainCalls.{plainChange, changeCause, editOf, changing}
+use Rattle.call_outcomes.specs.Untallied.{IsList, untallied, storeOf, outcomeOf}
+use Rattle.call_outcomes.specs.UntalliedLaws.{contents-of, plain-calls}
 use Rattle.call_outcomes.specs.PlainCallLaws.{change-within, edit-change, edit-list}
 use Rattle.call_open.specs.AdmittedLaws.{change-decoded, change-free}
 use Rattle.call_change.specs.declared.DrawnChange.{DrawnChange}
@@ -81,6 +86,12 @@ answer-ended : (change : Change) (n : ℕ) (s : Shape) (run : Ran Shape) (answer
 unfolding UpdatedAs
 answer-ended change n s (ran shape next) answer room counts w e = let z : _≡_ {A = ℕ} 0 1 = cc (w .1) in absurd (omega arith)
 answer-ended change n s ended answer room counts w e = refl
+
+-- ---- the counts of a sheet, by its slots
+
+counts-of : (cap : Capacity) (roomy : Roomy cap) (list : List ℕ) (s : Shape) → IsContents cap list s → {M : ℕ} {slots work : List ℕ} → s .size ≡ M
+    → slots ≡ laySlots (cap .slots) list s → work ≡ shapeCounts (cap .counts) (length list) s → NumbersIn length M M slots work
+counts-of cap roomy list s w size slots-are work-are = rw (slots-are, work-are, ← size) (counts-laid cap roomy list s w)
 
 -- ---- the part laid out anew, by the code's numbers
 
@@ -146,12 +157,19 @@ module _ {cap : Capacity} (ready : CapacityReady cap) {change : Change} {e n m :
   unfolding layOut
   slots-are = ap (λ (t : Store). t .slots) (sound .1)
 
+  work-list : work ≡ shapeCounts (cap .counts) (length (c .list)) (c .shape)
+  work-list = p .copied ∙ ap numbered (sound .1) ∙ numbered-layOut cap (c .list) (c .shape) (sound .0) (ready .roomy)
+
   work-are : work ≡ shapeCounts (cap .counts) n (c .shape)
-  work-are =
-      p .copied
-      ∙ ap numbered (sound .1)
-      ∙ numbered-layOut cap (c .list) (c .shape) (sound .0) (ready .roomy)
-      ∙ ap (λ (k : ℕ). shapeCounts (cap .counts) k (c .shape)) (p .admitted .count)
+  work-are = work-list ∙ ap (λ (k : ℕ). shapeCounts (cap .counts) k (c .shape)) (p .admitted .count)
+
+  -- The counts are the numbers of entries in the slots, in the order of the store.
+  counts-in : NumbersIn length m m slots work
+  counts-in = counts-of cap (ready .roomy) (c .list) (c .shape) (sound .0) (p .admitted .size) slots-are work-list
+
+  counts-order : counts ≡ countOrder (height m) work
+  unfolding layOut layCounts
+  counts-order = ap (λ (t : Store). t .counts) (sound .1) ∙ ap₂ (λ (M : ℕ) (xs : List ℕ). countOrder (height M) xs) (p .admitted .size) (sym work-list)
 
   pub work-length : length work ≡ cap .counts
   work-length = rw work-are (length-shapeCounts (cap .counts) n (c .shape))
@@ -245,20 +263,11 @@ module _ {cap : Capacity} (ready : CapacityReady cap) {change : Change} {e n m :
       abbrev d : DrawnChange
       d = record { old = m; new = m′; part = part; change = change; entry = e }
 
-      -- what writing the change asks, where the counts have 16 bits
-      pub write-ready : 2 * cap .entries < 2 ^ 16 → WriteReady d (storeOf slots counts) work′
-      write-ready wide = record {
-        part-ready =
-            part-ready cap (c .list) (c .shape) (drawn .shape) change e part planned m m′ slots work′ (p .admitted .size) (drawn .size-is) slots-are work′-are
-            (omega (arith, sizes-most .0, ready .few)) (omega (arith, sizes-most .1, ready .few)) slots-length work′-length;
-        count =
-            part-count cap (c .list) (c .shape) (drawn .shape) change e part planned m m′ slots work′ (p .admitted .size) (drawn .size-is) slots-are work′-are;
-        lengths = counts-length ∙ sym work′-length;
-        small = subst (Every (λ k. k < 2 ^ 16)) (sym (drawn .counts-are))
-            (shapeCounts-every (λ k. k < 2 ^ 16) (cap .counts) (countAfter change n) (drawn .shape) new-shape
-            (λ k h. omega (arith, drawn .size-is, sizes-most .1)));
-        room = rw (new-size, work′-length) new-fit;
-      }
+      -- what laying the part out asks
+      lay-part-ready : LayReady m m′ part change work′ slots
+      lay-part-ready =
+          part-ready cap (c .list) (c .shape) (drawn .shape) change e part planned m m′ slots work′ (p .admitted .size) (drawn .size-is) slots-are work′-are
+          (omega (arith, sizes-most .0, ready .few)) (omega (arith, sizes-most .1, ready .few)) slots-length work′-length
 
       -- what is known of the part
       pub part-inside : PartIn m′ part
@@ -284,32 +293,71 @@ module _ {cap : Capacity} (ready : CapacityReady cap) {change : Change} {e n m :
       pub size-written : {slots′ counts′ : List ℕ} → storeOf slots′ counts′ ≡ written d work′ (storeOf slots counts) → getD counts′ 0 0 ≡ m′
       unfolding written
       size-written store-is =
-          ap (λ (t : Store). getD (t .counts) 0 0) store-is ∙ countOrder-size (height (getD work′ 0 0)) work′ ∙ new-size ∙ drawn .size-is
+          ap (λ (t : Store). getD (t .counts) 0 0) store-is ∙ countOrder-size (height m′) work′ ∙ new-size ∙ drawn .size-is
 
       -- the work array has the new counts by range number
       pub work-numbered : {slots′ counts′ : List ℕ} → storeOf slots′ counts′ ≡ written d work′ (storeOf slots counts) → work′ ≡ numbered (storeOf slots′ counts′)
       unfolding written numbered
       work-numbered store-is =
-          let h = height (getD work′ 0 0) in
+          let h = height m′ in
           sym (ap numbered store-is
-          ∙ ap (λ (k : ℕ). numberOrder (height k) (countOrder h work′)) (countOrder-size h work′)
-          ∙ number-count h work′ (rw (new-size, work′-length) new-fit))
+          ∙ ap (λ (k : ℕ). numberOrder (height k) (countOrder h work′)) (countOrder-size h work′ ∙ new-size ∙ drawn .size-is)
+          ∙ number-count h work′ (rw (← drawn .size-is, work′-length) new-fit))
 
       -- where it is a part of the sheet, the slots before it and behind it stay
-      module _ (wide : 2 * cap .entries < 2 ^ 16) (other : part .range ≢ 1) {slots′ counts′ : List ℕ}
-          (store-is : storeOf slots′ counts′ ≡ written d work′ (storeOf slots counts)) where
+      module _ (other : part .range ≢ 1) {slots′ : List ℕ} (laid : slots′ ≡ layPart m m′ part change e work′ slots) where
         lay-ready : LayReady m′ m′ part change work′ slots
-        lay-ready = subst (λ (k : ℕ). LayReady k m′ part change work′ slots) (sym (size-kept other)) (write-ready wide .part-ready)
+        lay-ready = subst (λ (k : ℕ). LayReady k m′ part change work′ slots) (sym (size-kept other)) lay-part-ready
 
         new-slots-are : slots′ ≡ layPart m′ m′ part change e work′ slots
-        unfolding written
-        new-slots-are = ap (λ (t : Store). t .slots) store-is ∙ ap (λ (k : ℕ). layPart k m′ part change e work′ slots) (sym (size-kept other))
+        new-slots-are = laid ∙ ap (λ (k : ℕ). layPart k m′ part change e work′ slots) (sym (size-kept other))
 
         pub kept-before : take (partFrom m′ part) slots ≡ take (partFrom m′ part) slots′
         kept-before = rw new-slots-are (sym (slots-before lay-ready e))
 
         pub kept-behind : drop (partFrom m′ part + partLength m′ part) slots ≡ drop (partFrom m′ part + partLength m′ part) slots′
         kept-behind = rw new-slots-are (sym (slots-behind lay-ready e))
+
+      -- the new counts are the numbers of entries in the new slots
+      new-list : IsList cap (changeList change e (c .list))
+      new-list =
+          subst (IsList cap) (edit-list change e (c .list))
+          (plain-calls cap .keeps (plainChange change e) (c .list) (record { room = sound .0 .room; entries = sound .0 .entries })
+          (by-list (λ k. changeCause (cap .entries) (plainChange change e) k ≡ none) (change-free (p .admitted))))
+
+      entries : countAfter change (length (c .list)) ≡ length (changeList change e (c .list))
+      entries = sym (length-changed change e (c .list) (by-list (InReach change) in-reach))
+
+      new-contents : IsContents cap (changeList change e (c .list)) (drawn .shape)
+      new-contents =
+          contents-of cap _ _ new-list (subst (λ (k : ℕ). IsShape k (drawn .shape)) entries (by-list (λ k. IsShape (countAfter change k) (drawn .shape)) new-shape))
+
+      new-counts-in : NumbersIn length m′ m′ (layPart m m′ part change e work′ slots) work′
+      new-counts-in =
+          counts-of cap (ready .roomy) (changeList change e (c .list)) (drawn .shape) new-contents (drawn .size-is)
+          (part-laid cap (c .list) (c .shape) (drawn .shape) change e part planned m m′ slots work′ (p .admitted .size) (drawn .size-is) slots-are work′-are)
+          (work′-are ∙ ap (λ (k : ℕ). shapeCounts (cap .counts) k (drawn .shape)) entries)
+
+      -- so the counts of the ranges that have no leaf of it stay
+      placed : part .range ≢ 1 → PlacedBut (height m′) (firstLeaf m′ part) (lastLeaf m′ part) work′ counts
+      placed other =
+          let slots′ = layPart m m′ part change e work′ slots in
+          let size : m ≡ m′ = sym (size-kept other) in
+          let but : NumbersBut length m′ m′ slots′ (firstLeaf m′ part) (lastLeaf m′ part + 1) work
+          = kept-numbers part-inside length m′ (kept-before other refl) (kept-behind other refl) (subst (λ (M : ℕ). NumbersIn length M M slots work) size counts-in) in
+          placed-but but new-counts-in (counts-order ∙ ap (λ (M : ℕ). countOrder (height M) work) size) (work-length ∙ sym work′-length) (rw (← drawn .size-is, work-length) new-fit)
+
+      -- what writing the change asks
+      pub write-ready : WriteReady d (storeOf slots counts) work′
+      write-ready = record {
+        part-ready = lay-part-ready;
+        count =
+            part-count cap (c .list) (c .shape) (drawn .shape) change e part planned m m′ slots work′ (p .admitted .size) (drawn .size-is) slots-are work′-are;
+        lengths = counts-length ∙ sym work′-length;
+        few = omega (arith, sizes-most .1, ready .few);
+        room = rw (← drawn .size-is, work′-length) new-fit;
+        placed = placed;
+      }
 
       pub change-done : (after : ℕ) (slots′ counts′ : List ℕ) → after ≡ countAfter change n
           → storeOf slots′ counts′ ≡ written d work′ (storeOf slots counts)
@@ -327,14 +375,14 @@ module _ {cap : Capacity} (ready : CapacityReady cap) {change : Change} {e n m :
               ∙ part-laid cap (c .list) (c .shape) (drawn .shape) change e part planned m m′ slots work′ (p .admitted .size) (drawn .size-is) slots-are work′-are
               ∙ rw (edit-list change e (c .list))
 
-          entries : countAfter change (length (c .list)) ≡ length (applied (editOf (plainChange change e)) (c .list))
-          entries = sym (ap length (edit-list change e (c .list)) ∙ length-changed change e (c .list) (by-list (InReach change) in-reach))
+          number-after : countAfter change (length (c .list)) ≡ length (applied (editOf (plainChange change e)) (c .list))
+          number-after = entries ∙ ap length (sym (edit-list change e (c .list)))
 
           new-counts : counts′ ≡ layCounts (cap .counts) (length (applied (editOf (plainChange change e)) (c .list))) (drawn .shape)
           new-counts =
               ap (λ (t : Store). t .counts) store-is
-              ∙ ap₂ (λ (M : ℕ) (xs : List ℕ). countOrder (height M) xs) new-size
-              (work′-are ∙ ap (λ (j : ℕ). shapeCounts (cap .counts) j (drawn .shape)) entries)
+              ∙ ap₂ (λ (M : ℕ) (xs : List ℕ). countOrder (height M) xs) (sym (drawn .size-is))
+              (work′-are ∙ ap (λ (j : ℕ). shapeCounts (cap .counts) j (drawn .shape)) number-after)
 
           laid : outcomeOf (Changed after next) slots′ counts′ []
               ≡ record {

@@ -15,7 +15,7 @@ use Rattle.call_change.specs.SheetChange.{entriesBefore, WriteReady}
 module _ {d : DrawnChange} {store : Store} {work : List ℕ} (w : WriteReady d store work) where
   -- the work array has a number 0, the size parameter
   pub some-number : 0 < length work
-  some-number = omega (arith, w .room, pow-pos (height (getD work 0 0)))
+  some-number = omega (arith, w .room, pow-pos (height (d .new)))
 
   -- the work array has a count for its range
   pub range-inside : d .part .range < length work

@@ -19,10 +19,10 @@ pub struct DrawnChange {
 }
 
 // Writes a drawn change into the store: the part is laid out anew by the counts that the work array has by range number, and these are
-// written in their order. The entries of the part pass through the lent list.
+// written in their order, those that the change can have altered. The entries of the part pass through the lent list.
 pub fn write_change(
     slots: &mut [u64],
-    counts: &mut [u16],
+    counts: &mut [u32],
     work: &[u32],
     list: &mut [u64],
     drawn: DrawnChange,
@@ -37,7 +37,7 @@ pub fn write_change(
     let part = drawn.part;
     let change = drawn.change;
     store_part::lay_part(slots, old, new, part, change, drawn.entry, work, list);
-    let m = work[0] as usize;
-    let size = Size { m: m };
-    store_counts::write_counts(size, work, counts);
+    let first = store_part::first_leaf(new, part);
+    let last = store_part::last_leaf(new, part);
+    store_counts::put_numbers(new, part.range, first, last, work, counts);
 }

@@ -12,6 +12,6 @@ pub mod SingleCalls
 pub mod Independence
 pub mod Shares
 pub mod Supply
-pub mod ClubSupply
+pub mod PlainSupply
 pub mod Clause
 pub mod ClubSheets

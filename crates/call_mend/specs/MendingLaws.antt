@@ -6,7 +6,6 @@ use mathlib.Core.Logic.{_↔_}
 use Prim.Native.Nat.{ℕ}
 use native.Mathlib.Omega.{arith}
 use borrow.Author.Tests.{eq-eqb, eqb-true}
-use lib.Dec.{eqb}
 use lib.ListN.{length, replicate}
 use Rattle.base.specs.Lists.{equalLists}
 use Rattle.base.specs.BoolLaws.{and-both, not-true-false}
@@ -19,12 +18,11 @@ use Rattle.store_layout.specs.Decode.{Contents}
 use Rattle.store_layout.specs.Room.{Roomy}
 use Rattle.store_layout.specs.EmptyLaws.{empty-shape, one-empty, empty-slots}
 use Rattle.store_layout.specs.SheetLaws.{size-layOut}
-use Rattle.store_sums.specs.TreeIn.{contentsIn}
 use Rattle.store_sums.specs.TreeInLaws.{contents-laid}
 use Rattle.call_outcomes.specs.declared.Cause.the-variants.{Lengths, NotMendable}
 use Rattle.call_outcomes.specs.declared.Answer.the-variants.{Mended, Refused}
 use Rattle.call_outcomes.specs.Kind.{Found, holds, wrong, View, LawfulView, empty, SheetOf}
-use Rattle.call_outcomes.specs.Outcome.{Outcome, refused}
+use Rattle.call_outcomes.specs.Outcome.{refused}
 use Rattle.call_mend.specs.Mending.{sizeOf, SameKept, sameKept, HasStore, isHeld, mendedBy, Mendable, contentsOf, restored, isRestored, mended}
 
 -- ---- the test of what is kept

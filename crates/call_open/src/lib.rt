@@ -19,7 +19,7 @@ pub enum Opened {
 
 // Looks at a store: the lengths are right and it is a sheet, or cause 1 or 2 decides. The counts of a sheet are copied to the work array, by
 // range number. A size parameter that no sheet of the capacity has is refused before the counts are read in its order.
-pub fn examine(cap: Capacity, slots: &[u64], counts: &[u16], work: &mut [u32]) -> Opened
+pub fn examine(cap: Capacity, slots: &[u64], counts: &[u32], work: &mut [u32]) -> Opened
     requires capacity { ⌜ CapacityReady cap ⌝ }
     requires room { ⌜ length (now work) ≡ cap .counts ⌝ }
     ensures { λ r. ⌜ Opening (untalliedView cap) numbered (storeOf (now (slots .entry)) (now (counts .entry))) r (now (work .exit)) ⌝ }

@@ -47,6 +47,19 @@ module _ (kind : Kind) (c : kind .calls .ChangeCall) (tape : List ℕ) (store : 
       outcome-accepted kind (change c) store tape [] before decided
       ∙ rw (run-bind (update (edit .change) (length (before .list)) (before .shape)) (λ t. done (kind .view .lay (applied edit (before .list)) t)) tape 0, e)
 
+  -- So nothing is changed where that is the answer.
+  pub change-kept : (after : StoreFor kind)
+      → _≡_ {A = Outcome (StoreFor kind)} (record { answer = Refused TapeEnded; store = after; output = [] }) (outcome kind (change c) tape store [])
+      → after ≡ store
+  unfolding refused
+  change-kept after is = by-run (runAt (update (edit .change) (length (before .list)) (before .shape)) tape 0) refl
+    where
+      by-run : (r : Ran Shape) → runAt (update (edit .change) (length (before .list)) (before .shape)) tape 0 ≡ r → after ≡ store
+      by-run (ran s next) e =
+          let answers = ap (λ (x : Outcome (StoreFor kind)). x .answer) (is ∙ outcome-drawn s next e) in
+          let z : _≡_ {A = ℕ} 0 1 = cc in absurd (omega arith)
+      by-run ended e = ap (λ (x : Outcome (StoreFor kind)). x .store) (is ∙ outcome-ended e)
+
   -- ---- a change that is made
 
   -- Everything was drawn, and the store after it is the sheet of the edited list with the shape drawn.

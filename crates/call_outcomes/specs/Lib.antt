@@ -1,4 +1,4 @@
--- What each call comes to, for all inputs and any kind of sheet; plain sheets, and those of the clubs.
+-- What each call comes to, for all inputs and any kind of sheet; plain sheets, those of the clubs and those of the federation.
 pub mod Returns
 pub mod Kind
 pub mod Causes
@@ -8,6 +8,7 @@ pub mod Untallied
 pub mod Slice
 pub mod Plain
 pub mod Clubs
+pub mod Federation
 pub mod KindLaws
 pub mod DecisionLaws
 pub mod ChangeLaws
@@ -19,4 +20,6 @@ pub mod SliceLaws
 pub mod PlainLaws
 pub mod AcceptedLaws
 pub mod ClubsLaws
+pub mod FederationLaws
+pub mod FitLaws
 pub mod Examples

@@ -5,7 +5,7 @@ use Prim.Native.Nat.{ℕ}
 use lib.ListN.{length, drop}
 use Rattle.store_layout.specs.declared.Capacity.{Capacity}
 use Rattle.store_layout.specs.Room.{CapacityReady}
-use Rattle.store_tallies.specs.Tallies.{rangeTallies, layTallies}
+use Rattle.store_tallies.specs.Tallies.{rangeTallies}
 use Rattle.call_outcomes.specs.declared.Answer.{Answer}
 use Rattle.call_outcomes.specs.declared.Answer.the-variants.{Refused}
 use Rattle.call_outcomes.specs.PlainCalls.{Question, questionCause, replyTo, writtenFor}
@@ -45,15 +45,11 @@ pub record Readable (found : Opened) (slots work : List ℕ) : Type 0 where
   pub ready : CapacityReady cap
   pub sheet : (n m : ℕ) → found ≡ opened.Sheet n m → OpenedSheet cap (storeOf slots counts) n m work
 
--- And these words are its tallies, in the order of the counts.
+-- And these words are its tallies by range number.
 pub record Tallied (found : Opened) (slots work words : List ℕ) : Type 0 where
   pub readable : Readable found slots work
   pub tallies : (n m : ℕ) (e : found ≡ opened.Sheet n m) → let c = readable .sheet n m e .contents in
-      words ≡ layTallies (readable .cap .counts) (c .list) (c .shape)
-
--- Where a sheet was found, there are as many numbers as tallies.
-abbrev pub RoomFor : Opened → List ℕ → List ℕ → Type 0
-RoomFor found words numbers = (n m : ℕ) → found ≡ opened.Sheet n m → length numbers ≡ length words
+      words ≡ rangeTallies (readable .cap .counts) (c .list) (c .shape)
 
 -- These slots are those of a plain sheet with the size parameter m; the work array has its counts, and these words are its tallies, by range number.
 pub record ByNumber (m : ℕ) (slots work words : List ℕ) : Type 0 where

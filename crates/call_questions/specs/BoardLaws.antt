@@ -1,12 +1,12 @@
 -- A board of a plain sheet: the entries copied are the reply.
-use mathlib.Core.Path.{_≡_, refl, _∙_, sym}
+use mathlib.Core.Path.{_≡_, refl}
 use mathlib.Core.List.{List, [], _∷_, _++_}
 use Prim.Native.Nat.{ℕ}
 use native.Mathlib.Omega.{arith}
 use lib.ListN.{length, getD, drop, length-map}
 use Rattle.store_board.specs.Board.{entriesAt}
 use Rattle.call_outcomes.specs.declared.Answer.the-variants.{Entries}
-use Rattle.call_outcomes.specs.PlainCalls.{boardOf, questionCause, replyTo, writtenFor}
+use Rattle.call_outcomes.specs.PlainCalls.{boardOf, questionCause, replyTo}
 use Rattle.call_outcomes.specs.PlainCallLaws.{board-within, board-written}
 use Rattle.call_open.specs.declared.Opened.{Opened}
 use Rattle.call_open.specs.declared.Opened.the-variants as opened

@@ -1,17 +1,16 @@
 -- The tallies of a plain sheet by range number: they are those of the ranges of its slots, and the root's is that of the whole list.
-use mathlib.Core.Path.{_≡_, sym, _∙_, ap}
+use mathlib.Core.Path.{_≡_, _∙_, ap}
 use mathlib.Core.List.{List}
 use Prim.Native.Nat.{ℕ, _*_, _^_, _≤_}
 use lib.ListN.{length, getD}
 use Rattle.tree_sizes.specs.Sizes.{height}
 use Rattle.tree_counts.specs.CountLaws.{holds-count}
-use Rattle.store_order.specs.CountOrder.{numberOrder}
 use Rattle.store_layout.specs.Layout.{Store, laySlots, layOut}
 use Rattle.store_layout.specs.Leaf.{nonzero}
 use Rattle.store_scoring.specs.Scoring.{tally}
 use Rattle.store_tallies.specs.TalliesIn.{TalliesIn}
 use Rattle.store_tallies.specs.TallyTree.{tallyTree}
-use Rattle.store_tallies.specs.LayLaws.{length-rangeTallies, length-layTallies, numbered-tallies, rangeTallies-holds}
+use Rattle.store_tallies.specs.LayLaws.{length-rangeTallies, rangeTallies-holds}
 use Rattle.store_tallies.specs.LaidLaws.{tallies-laid}
 use Rattle.call_outcomes.specs.Untallied.{storeOf}
 use Rattle.call_open.specs.declared.Opened.{Opened}
@@ -19,33 +18,15 @@ use Rattle.call_open.specs.declared.Opened.the-variants as opened
 use Rattle.call_questions.specs.Asked.{Tallied, ByNumber}
 use Rattle.call_questions.specs.StartLaws.{decoded-list, laid, ranges-room}
 
--- ---- read by range number
-
-module _ {found : Opened} {slots work words : List ℕ} {n m : ℕ} (t : Tallied found slots work words) (is : found ≡ opened.Sheet n m) where
-  -- There is a tally for every range.
-  pub tallies-room : 2 * 2 ^ height m ≤ length words
-  tallies-room =
-      let w = t .readable .sheet n m is in
-      rw (t .tallies n m is, length-layTallies (t .readable .cap .counts) (w .contents .list) (w .contents .shape))
-      (ranges-room w (t .readable .ready))
-
-  pub read-by-number : {numbers : List ℕ} → numbers ≡ numberOrder (height m) words → ByNumber m slots work numbers
-  read-by-number read =
-      let w = t .readable .sheet n m is in
-      record {
-        cap = t .readable .cap;
-        counts = t .readable .counts;
-        entries = n;
-        ready = t .readable .ready;
-        sheet = w;
-        tallies =
-            read
-            ∙ ap (λ (k : ℕ). numberOrder (height k) words) (sym (w .size))
-            ∙ ap (numberOrder (height (w .contents .shape .size))) (t .tallies n m is)
-            ∙ numbered-tallies (t .readable .cap) (t .readable .ready .roomy) (w .contents .list) (w .contents .shape) (laid w .0);
-      }
-
--- ---- by range number
+pub by-number : {found : Opened} {slots work words : List ℕ} {n m : ℕ} → Tallied found slots work words → found ≡ opened.Sheet n m → ByNumber m slots work words
+by-number {n = n} {m = m} t is = record {
+  cap = t .readable .cap;
+  counts = t .readable .counts;
+  entries = n;
+  ready = t .readable .ready;
+  sheet = t .readable .sheet n m is;
+  tallies = t .tallies n m is;
+}
 
 module _ {m : ℕ} {slots work words : List ℕ} (t : ByNumber m slots work words) where
   pub numbers-room : 2 * 2 ^ height m ≤ length words

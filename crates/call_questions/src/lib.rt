@@ -6,7 +6,7 @@ ghost use lib.ListN.{length};
 ghost use Rattle.store_layout.specs.Leaf.{nonzero};
 ghost use Rattle.store_ties.specs.Ties.{placingIn};
 ghost use Rattle.call_outcomes.specs.PlainCalls.{readRanks, placeOf, countOf, boardOf};
-ghost use Rattle.call_questions.specs.Asked.{asked, Answers, Readable, Tallied, RoomFor, ByNumber};
+ghost use Rattle.call_questions.specs.Asked.{asked, Answers, Readable, Tallied, ByNumber};
 use call_open::Opened;
 use call_outcomes::Answer;
 use store_layout::count_at;
@@ -78,22 +78,13 @@ fn placing_of(m: usize, slots: &[u64], work: &[u32], tallies: &[u32], rank: usiz
 }
 
 // The place of the entry at the rank: that of her tied group, the sum of its places and the number of its boats; a retired boat has none.
-// The tallies are read by range number into `numbers`.
-pub fn place(
-    opened: Opened,
-    slots: &[u64],
-    work: &[u32],
-    tallies: &[u16],
-    numbers: &mut [u32],
-    rank: usize,
-) -> Answer
-    requires sheet { ⌜ Tallied opened (now slots) (now work) (now tallies) ⌝ }
-    requires room { ⌜ RoomFor opened (now tallies) (now numbers) ⌝ }
+// `numbers` has the tallies by range number.
+pub fn place(opened: Opened, slots: &[u64], work: &[u32], numbers: &[u32], rank: usize) -> Answer
+    requires { ⌜ Tallied opened (now slots) (now work) (now numbers) ⌝ }
     ensures { λ r. ⌜ record { answer = r; output = [] } ≡ asked (placeOf rank) opened (nonzero (now (slots .entry))) [] ⌝ }
 {
     match call_open::admit_rank(opened, rank) {
         Opened::Sheet { n: _, m } => {
-            store_counts::read_counts(Size { m: m }, tallies, numbers);
             let placing = placing_of(m, slots, work, numbers, rank);
             Answer::Placed {
                 place: placing.place,

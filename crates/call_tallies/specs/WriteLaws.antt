@@ -1,16 +1,18 @@
--- The tallies after a change: the counts where no boat is retired, and otherwise those before it but for the ranges that have a leaf of the part.
+-- The tallies of a sheet: the counts where no boat is retired; and after a change, those before it but for the ranges that have a leaf of the part.
 use mathlib.Core.Path.{_≡_, refl, sym, _∙_, ap}
-use mathlib.Core.Bool.{true, false}
-use mathlib.Core.Logic.{_≢_, ⊎-elim}
+use mathlib.Core.Bool.{Bool, true, false}
+use mathlib.Core.Logic.{_≢_, ⊎-elim, _↔_}
 use mathlib.Core.List.{List, _∷_}
-use Prim.Native.Nat.{ℕ, zero, suc, _+_, _-_, _*_, _^_, _≤_, _<_}
+use Prim.Native.Nat.{ℕ, zero, suc, _+_, _-_, _*_, _^_, _≤_}
 use native.Mathlib.Omega.{arith}
-use native.Mathlib.Nat.{mul-le-mul-right, pow-succ'}
-use lib.Pow.{pow-add, pow-pos}
-use lib.ListN.{length, getD, take, drop, replicate}
-use Rattle.base.specs.ListLaws.{replicate-at}
+use native.Mathlib.Nat.{pow-succ'}
+use lib.Pow.{pow-pos}
+use lib.ListN.{length, getD, take, drop, replicate, length-replicate}
+use Rattle.base.specs.BoolLaws.{tests-agree}
+use Rattle.base.specs.Lists.{equalLists}
+use Rattle.base.specs.ListLaws.{replicate-at, equal-itself, equal-sound}
 use Rattle.base.specs.CaseLaws.{eq-or-ne}
-use Rattle.tree_sizes.specs.Sizes.{height, leafSlots}
+use Rattle.tree_sizes.specs.Sizes.{height}
 use Rattle.tree_rules.specs.declared.Change.{Change}
 use Rattle.tree_rules.specs.declared.Change.the-variants.{Insert, Delete}
 use Rattle.tree_rules.specs.Tree.{Shape}
@@ -19,8 +21,8 @@ use Rattle.tree_counts.specs.declared.Part.{Part}
 use Rattle.tree_counts.specs.Counts.{shapeCounts}
 use Rattle.tree_counts.specs.CountLaws.{holds-count}
 use Rattle.tree_counts.specs.ShapeCountLaws.{length-shapeCounts}
-use Rattle.store_order.specs.CountOrder.{countOrder}
-use Rattle.store_order.specs.CountOrderLaws.{numberOrder-root}
+use Rattle.store_order.specs.CountOrder.{countOrder, numberOrder}
+use Rattle.store_order.specs.CountOrderLaws.{numberOrder-root, length-numberOrder, count-number, number-count}
 use Rattle.store_layout.specs.declared.Capacity.{Capacity}
 use Rattle.store_layout.specs.Layout.{laySlots, layCounts}
 use Rattle.store_layout.specs.Sheet.{IsContents}
@@ -31,10 +33,13 @@ use Rattle.store_tallies.specs.Tallies.{rangeTallies, layTallies}
 use Rattle.store_tallies.specs.TalliesIn.{TalliesBut, TalliesIn}
 use Rattle.store_tallies.specs.LayLaws.{length-rangeTallies, numbered-tallies, rangeTallies-holds}
 use Rattle.store_tallies.specs.LaidLaws.{tallies-laid, leaves-counted}
-use Rattle.store_sums.specs.KeptLaws.{numbers-kept, numbers-none}
+use Rattle.store_rows.specs.Above.{PlacedBut}
+use Rattle.store_sums.specs.LaidLaws.{numbers-only}
+use Rattle.store_sums.specs.KeptLaws.{numbers-none}
+use Rattle.store_sums.specs.PlacedLaws.{placed-but}
 use Rattle.store_tallies.specs.NoneLaws.{none-tallies}
-use Rattle.store_part.specs.Region.{leavesOf, leavesBefore}
-use Rattle.store_part.specs.Plan.{partFrom, partLength, PartIn}
+use Rattle.store_part.specs.Region.{leavesOf}
+use Rattle.store_part.specs.Plan.{firstLeaf, lastLeaf, PartIn}
 use Rattle.call_tallies.specs.Ready.{CountsReady, PartReady, StartsFrom}
 
 -- ---- no boat is retired
@@ -80,80 +85,57 @@ module _ (cap : Capacity) (roomy : Roomy cap) (list : List ℕ) (s : Shape) (w :
   slots-written size laid is =
       is (rangeTallies (cap .counts) list s) (rw (← size, laid) (tallies-laid cap roomy list s w)) (length-rangeTallies (cap .counts) list s) ∙ rw (← size)
 
+-- Tallies that are right by range number are right in the order of the counts.
+module _ {M : ℕ} {sl : List ℕ} (tallies : List ℕ) {numbers : List ℕ} (is : numbers ≡ numberOrder (height M) tallies) (room : 2 * 2 ^ height M ≤ length tallies) where
+  pub tested-by-number : {r : Bool} → (r ≡ true) ↔ TalliesIn M sl numbers → (words : List ℕ) → TalliesIn M sl words → length words ≡ length tallies
+      → r ≡ equalLists tallies (countOrder (height M) words)
+  tested-by-number {r} tells words found size =
+      let number : length numbers ≡ length words = ap length is ∙ length-numberOrder (height M) tallies ∙ sym size in
+      tests-agree r (equalLists tallies (countOrder (height M) words))
+      (λ all.
+      let same : numbers ≡ words = numbers-only tally 0 M sl numbers words (tells .0 all) found number in
+      let order : tallies ≡ countOrder (height M) words = sym (count-number (height M) tallies room) ∙ ap (countOrder (height M)) (sym is ∙ same) in
+      rw (← order) (equal-itself tallies))
+      (λ equal.
+      let order = equal-sound tallies (countOrder (height M) words) equal in
+      let same : numbers ≡ words = is ∙ ap (numberOrder (height M)) order ∙ number-count (height M) words (omega (arith, size)) in
+      tells .1 (rw same found))
+
 -- ---- a part of the sheet
-
-pub leaves-some : (M d : ℕ) → 0 < leavesOf M d
-unfolding leavesOf
-leaves-some M d = pow-pos (height M - d)
-
--- The leaves of the part, by their range numbers, and its slots.
-module _ {M : ℕ} {part : Part} (w : PartIn M part) where
-  pub leaves-number : 2 ^ part .depth * leavesOf M (part .depth) ≡ 2 ^ height M
-  unfolding leavesOf
-  leaves-number =
-      let whole : part .depth + (height M - part .depth) ≡ height M = omega (arith, w .depth-most) in
-      sym (pow-add 2 (part .depth) (height M - part .depth)) ∙ rw whole
-
-  -- how many leaves stand before it
-  leaves-before : part .range * leavesOf M (part .depth) ≡ 2 ^ height M + leavesBefore M (part .range) (part .depth)
-  unfolding leavesBefore
-  leaves-before =
-      let leaves = leavesOf M (part .depth) in
-      let rest = part .range - 2 ^ part .depth in
-      let is : part .range ≡ 2 ^ part .depth + rest = omega (arith, w .range-least) in
-      let parts : (2 ^ part .depth + rest) * leaves ≡ 2 ^ part .depth * leaves + rest * leaves = omega arith in
-      ap (λ (k : ℕ). k * leaves) is ∙ parts ∙ rw leaves-number
-
-  pub first-least : 2 ^ height M ≤ part .range * leavesOf M (part .depth)
-  first-least = omega (arith, leaves-before)
-
-  pub end-most : part .range * leavesOf M (part .depth) + leavesOf M (part .depth) ≤ 2 * 2 ^ height M
-  end-most =
-      let leaves = leavesOf M (part .depth) in
-      let next : part .range + 1 ≤ 2 * 2 ^ part .depth = omega (arith, w .range-most) in
-      omega (arith, leaves-number, mul-le-mul-right leaves next)
-
-  first-slot : leafSlots M * (part .range * leavesOf M (part .depth) - 2 ^ height M) ≡ partFrom M part
-  unfolding partFrom
-  first-slot =
-      let before : part .range * leavesOf M (part .depth) - 2 ^ height M ≡ leavesBefore M (part .range) (part .depth) = omega (arith, leaves-before) in rw before
-
-  end-slot : leafSlots M * (part .range * leavesOf M (part .depth) + leavesOf M (part .depth) - 2 ^ height M) ≡ partFrom M part + partLength M part
-  unfolding partFrom partLength
-  end-slot =
-      let leaves = leavesOf M (part .depth) in
-      let before : part .range * leaves + leaves - 2 ^ height M ≡ leavesBefore M (part .range) (part .depth) + leaves = omega (arith, leaves-before) in
-      rw before (omega arith)
-
-  -- The tallies before the change, by range number, but for the ranges that have a leaf of the part.
-  pub kept-tallies : {slots slots′ words : List ℕ} → take (partFrom M part) slots ≡ take (partFrom M part) slots′
-      → drop (partFrom M part + partLength M part) slots ≡ drop (partFrom M part + partLength M part) slots′ → TalliesIn M slots words
-      → TalliesBut M slots′ (part .range * leavesOf M (part .depth)) (part .range * leavesOf M (part .depth) + leavesOf M (part .depth)) words
-  kept-tallies {slots} {slots′} {words} before behind found =
-      numbers-kept tally 0 M slots slots′ (part .range * leavesOf M (part .depth)) (part .range * leavesOf M (part .depth) + leavesOf M (part .depth)) words
-      (rw first-slot before) (rw end-slot behind) found
 
 depth-zero : (d : ℕ) → 2 ^ d ≤ 1 → d ≡ 0
 depth-zero zero h = refl
 depth-zero (suc d) h = absurd (omega (arith, pow-pos d, rw (pow-succ' 2 d) at h))
 
--- The numbers from which the tallies are brought up to date are theirs but for the ranges that have a leaf of the part.
-module _ {M : ℕ} {part : Part} {sl tallies : List ℕ} (w : PartReady M part sl tallies) (room : ℕ) {new : List ℕ}
-    (s : StartsFrom M (part .range) tallies (replicate room 0) new) where
-  whole-leaves : part .range ≡ 1 → leavesOf M (part .depth) ≡ 2 ^ height M
-  unfolding leavesOf
-  whole-leaves one =
-      let top : part .depth ≡ 0 = depth-zero (part .depth) (omega (arith, one, w .inside .range-least)) in
-      let all : height M - 0 ≡ height M = omega arith in rw (top, all)
+-- A part with the range number 1 has all leaves.
+whole-leaves : {M : ℕ} {part : Part} → PartIn M part → part .range ≡ 1 → leavesOf M (part .depth) ≡ 2 ^ height M
+unfolding leavesOf
+whole-leaves {M} {part} w one =
+    let top : part .depth ≡ 0 = depth-zero (part .depth) (omega (arith, one, w .range-least)) in
+    let all : height M - 0 ≡ height M = omega arith in rw (top, all)
 
-  pub start-tallies : let leaves = leavesOf M (part .depth) in TalliesBut M sl (part .range * leaves) (part .range * leaves + leaves) new
+module _ {M : ℕ} {part : Part} {sl tallies old : List ℕ} (w : PartReady M part sl tallies old) {start : List ℕ} (s : StartsFrom (part .range) old start) where
+  -- The numbers from which the tallies are brought up to date are theirs but for the ranges that have a leaf of the part.
+  pub start-tallies : TalliesBut M sl (firstLeaf M part) (lastLeaf M part + 1) start
   start-tallies =
       ⊎-elim
       (λ (one : part .range ≡ 1).
-      let leaves : leavesOf M (part .depth) ≡ 2 ^ height M = whole-leaves one in
+      let room = length old in
+      let leaves : leavesOf M (part .depth) ≡ 2 ^ height M = whole-leaves (w .inside) one in
       let first : 1 * 2 ^ height M ≡ 2 ^ height M = omega arith in
-      let end : 2 ^ height M + 2 ^ height M ≡ 2 * 2 ^ height M = omega arith in
+      let end : 2 ^ height M + (2 ^ height M - 1) + 1 ≡ 2 * 2 ^ height M = omega (arith, pow-pos (height M)) in
       rw (s .whole one, leaves, one, first, end)
       (numbers-none tally 0 M sl (replicate room 0) (replicate-at 0 room 0) (λ k h. replicate-at 0 room k)))
       (λ (other : part .range ≢ 1). rw (s .other other) (w .kept other))
       (eq-or-ne (part .range) 1)
+
+  pub start-length : length start ≡ length old
+  start-length =
+      ⊎-elim (λ (one : part .range ≡ 1). ap length (s .whole one) ∙ length-replicate (length old) 0)
+      (λ (other : part .range ≢ 1). ap length (s .other other))
+      (eq-or-ne (part .range) 1)
+
+  -- Where it is not the whole sheet, only the numbers above its leaves are to be written.
+  pub start-placed : {new : List ℕ} → TalliesIn M sl new → length old ≡ length new → 2 * 2 ^ height M ≤ length old → part .range ≢ 1
+      → PlacedBut (height M) (firstLeaf M part) (lastLeaf M part) new tallies
+  start-placed found size room other = placed-but (w .kept other) found (w .same other) size room

@@ -73,7 +73,7 @@ fn print_sheet(slots: &[u64], counts: &[u16], output: &mut [u8], at: usize) -> u
     let s = size.leaf_slots();
     let leaves = tree_sizes::power(size.height());
     let mut numbered = [0u32; 256];
-    store_counts::read_counts(size, counts, &mut numbered);
+    sheet_clubs::read_counts(size, counts, &mut numbered);
     print_leaves(slots, &numbered, s, leaves, output, next)
 }
 

@@ -1,2 +1,3 @@
--- The reviewer's page: what is claimed of the clubs' sheets, a sentence and a theorem each.
+-- The reviewer's pages: what is claimed of the clubs' sheets and of the federation's, a sentence and a theorem each.
 pub mod Page
+pub mod FederationPage

@@ -39,7 +39,7 @@ use Rattle.call_outcomes.specs.Untallied.{IsList, untallied}
 use Rattle.call_outcomes.specs.Plain.{plainView, plain, PlainStore, PlainLengths, layPlain, equalPlain}
 use Rattle.call_outcomes.specs.PlainLaws.{plain-right}
 use Rattle.call_outcomes.specs.Clubs.{clubs, zeros}
-use Rattle.call_outcomes.specs.ClubsLaws.{clubs-roomy, clubs-lawful}
+use Rattle.call_outcomes.specs.ClubsLaws.{clubs-roomy, clubs-ready, clubs-lawful}
 use Rattle.call_outcomes.specs.LongerTapeLaws as longer
 use Rattle.call_orders.specs.Conversion.{toTree, toNumber, Convertible, conversion, toTreeOrder}
 use Rattle.call_orders.specs.ConversionLaws as conversions
@@ -52,7 +52,7 @@ use Rattle.call_history.specs.Refusals as refusals
 use Rattle.call_history.specs.TapeRuns.{tapeRuns, tapesDecide, CallsAmong, callsRuns}
 use Rattle.call_history.specs.TapeRunsLaws as tapes
 use Rattle.call_history.specs.Supply.{program-draws, history-supplied}
-use Rattle.call_history.specs.ClubSupply.{clubs-suppliable}
+use Rattle.call_history.specs.PlainSupply.{plain-suppliable}
 use Rattle.call_history.specs.Clause as clause
 use Rattle.call_history.specs.ClubSheets as sheets
 use Rattle.call_history.specs.ClubSheets.{ClubSheet}
@@ -86,7 +86,8 @@ use Rattle.call_mend.specs.Mending.{sizeOf, Mendable, mended}
 use Rattle.call_mend.specs.Views.{plainStore, timedStore}
 use Rattle.call_mend.specs.MendingLaws as mending
 use Rattle.timed_history.specs.Clause as timed-clause
-use Rattle.timed_history.specs.Clause.{clubs-timed, timed-suppliable}
+use Rattle.timed_history.specs.Clause.{clubs-timed}
+use Rattle.timed_history.specs.TimedSupply.{timed-suppliable}
 use Rattle.timed_history.specs.TimedSheets as timed-sheets
 use Rattle.timed_history.specs.TimedSheets.{TimedSheet}
 use Rattle.frame_input.specs.Lines.{linesOf}
@@ -146,14 +147,14 @@ tapes-fair = tapes.tapes-fair (plain clubs) (plain clubs)
 
 -- Every draw that a call makes on any sheet is among 1 to 2^32.
 pub draws-among : (list : List ℕ) (store : PlainStore) → ClubSheet list store → (call : Call) → Draws (Among (2 ^ 32)) (callProgram (plain clubs) call store)
-draws-among = program-draws (plain clubs) clubs-lawful clubs-suppliable
+draws-among = program-draws (plain clubs) clubs-lawful (plain-suppliable clubs-ready)
 
 -- For every course of a history there are tapes such that no call returns 7 and the words decide this very course.
 pub coins-supplied : (calls : List Call) (store : PlainStore) → PlainLengths clubs store → (faces : List ℕ) (v : PlainStore)
     → Follows (history (plain clubs) calls store) faces v
     → (sent : List (Sent Call)) × (callsOf sent ≡ calls) × NoneEnds (plain clubs) (clearing (plain clubs) ∷ sent) store
     × (facesSent (plain clubs) (clearing (plain clubs) ∷ sent) store ≡ faces) × (lastStore (plain clubs) (clearing (plain clubs) ∷ sent) store ≡ v)
-coins-supplied calls store right = history-supplied (plain clubs) clubs-lawful clubs-suppliable calls store (plain-right clubs store right)
+coins-supplied calls store right = history-supplied (plain clubs) clubs-lawful (plain-suppliable clubs-ready) calls store (plain-right clubs store right)
 
 -- A call that is not refused by 7 has the same outcome on every longer tape that begins with the same words.
 pub more-tape : (call : Call) (tape more : List ℕ) (store : PlainStore) (output : List ℕ)
@@ -264,7 +265,7 @@ pub timed-coins-supplied : (calls : List TimedCall) (store : TimedStore) → Tim
     → Follows (history (timed clubs) calls store) faces v
     → (sent : List (Sent TimedCall)) × (callsOf sent ≡ calls) × NoneEnds (timed clubs) (clearing (timed clubs) ∷ sent) store
     × (facesSent (timed clubs) (clearing (timed clubs) ∷ sent) store ≡ faces) × (lastStore (timed clubs) (clearing (timed clubs) ∷ sent) store ≡ v)
-timed-coins-supplied calls store right = history-supplied (timed clubs) clubs-timed timed-suppliable calls store (timed-right clubs store right)
+timed-coins-supplied calls store right = history-supplied (timed clubs) clubs-timed (timed-suppliable clubs-ready) calls store (timed-right clubs store right)
 
 -- A check of a timed sheet answers with the length of its list; a check of any other store of the right lengths is refused by cause 2 where
 -- slots, counts and tallies are no plain sheet, and by cause 11 where they are one.

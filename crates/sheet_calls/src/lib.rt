@@ -17,12 +17,14 @@ pub fn clear(slots: &mut [u64], counts: &mut [u16], tallies: &mut [u16]) -> Answ
     ensures { λ r. ⌜ plainOutcomeOf r (now (slots .exit)) (now (counts .exit)) (now (tallies .exit)) []
         ≡ outcome (plain clubs) clear [] (plainStoreOf (now (slots .entry)) (now (counts .entry)) (now (tallies .entry))) [] ⌝ }
 {
-    if !sheet_open::lengths_are_right(slots, counts, tallies) {
+    let cap = sheet_clubs::capacity();
+    if !sheet_open::right_lengths(cap, slots.len(), counts.len(), tallies.len()) {
         return Answer::Refused(Cause::Lengths);
     }
+    let zeros = [0u32; 256];
     store_slices::zero_slots(slots, 0, 4224);
-    store_counts::zero_counts(counts);
-    store_counts::zero_counts(tallies);
+    store_widths::narrow(&zeros, counts);
+    store_widths::narrow(&zeros, tallies);
     Answer::Cleared
 }
 
@@ -38,22 +40,22 @@ pub fn make_change(
     ensures { λ r. ⌜ plainOutcomeOf r (now (slots .exit)) (now (counts .exit)) (now (tallies .exit)) []
         ≡ outcome (plain clubs) (call.changing change entry) (now (tape .entry)) (plainStoreOf (now (slots .entry)) (now (counts .entry)) (now (tallies .entry))) [] ⌝ }
 {
+    let mut counts32 = [0u32; 256];
     let mut work = [0u32; 256];
-    let opened = sheet_open::examine(slots, counts, tallies, &mut work);
+    let opened = sheet_clubs::open(slots, counts, tallies, &mut counts32, &mut work);
     match call_open::admit_change(opened, 1024, change, entry) {
-        Opened::Sheet { n, m } => {
-            sheet_change::make(
-                slots,
-                counts,
-                tallies,
-                &mut work,
-                n,
-                m,
-                change,
-                entry,
-                tape,
-            ).answer()
-        }
+        Opened::Sheet { n, m } => sheet_clubs_change::make(
+            slots,
+            counts,
+            tallies,
+            &mut counts32,
+            &mut work,
+            n,
+            m,
+            change,
+            entry,
+            tape,
+        ).answer(),
         Opened::Refused(cause) => Answer::Refused(cause),
     }
 }
@@ -100,7 +102,7 @@ pub fn read(
         ≡ outcome (plain clubs) (call.read first last (length (now (output .entry)))) [] (plainStoreOf (now (slots .entry)) (now (counts .entry)) (now (tallies .entry))) (now (output .entry)) ⌝ }
 {
     let mut work = [0u32; 256];
-    let opened = sheet_open::examine(slots, counts, tallies, &mut work);
+    let opened = sheet_clubs::examine(slots, counts, tallies, &mut work);
     call_questions::read(opened, slots, &work, first, last, output)
 }
 
@@ -110,9 +112,9 @@ pub fn place(slots: &[u64], counts: &[u16], tallies: &[u16], rank: usize) -> Ans
         ≡ outcome (plain clubs) (call.place rank) [] (plainStoreOf (now (slots .entry)) (now (counts .entry)) (now (tallies .entry))) [] ⌝ }
 {
     let mut work = [0u32; 256];
-    let opened = sheet_open::examine(slots, counts, tallies, &mut work);
     let mut numbers = [0u32; 256];
-    call_questions::place(opened, slots, &work, tallies, &mut numbers, rank)
+    let opened = sheet_clubs::examine_numbers(slots, counts, tallies, &mut work, &mut numbers);
+    call_questions::place(opened, slots, &work, &numbers, rank)
 }
 
 // The number of entries of a sheet.
@@ -121,7 +123,7 @@ pub fn check(slots: &[u64], counts: &[u16], tallies: &[u16]) -> Answer
         ≡ outcome (plain clubs) call.check [] (plainStoreOf (now (slots .entry)) (now (counts .entry)) (now (tallies .entry))) [] ⌝ }
 {
     let mut work = [0u32; 256];
-    let opened = sheet_open::examine(slots, counts, tallies, &mut work);
+    let opened = sheet_clubs::examine(slots, counts, tallies, &mut work);
     call_questions::check(opened)
 }
 
@@ -137,6 +139,6 @@ pub fn board(
         ≡ outcome (plain clubs) (call.board (now (ranks .entry)) (length (now (output .entry)))) [] (plainStoreOf (now (slots .entry)) (now (counts .entry)) (now (tallies .entry))) (now (output .entry)) ⌝ }
 {
     let mut work = [0u32; 256];
-    let opened = sheet_open::examine(slots, counts, tallies, &mut work);
+    let opened = sheet_clubs::examine(slots, counts, tallies, &mut work);
     call_questions::board(opened, slots, &work, ranks, output)
 }

@@ -1,25 +1,18 @@
--- The lengths of a plain store, test by test.
-use mathlib.Core.Path.{_≡_}
-use mathlib.Core.Logic.{_≢_}
+-- The lengths of a plain store, by those of its slices.
+use mathlib.Core.Path.{_≡_, refl}
 use mathlib.Core.List.{List}
-use mathlib.Core.Bool.{false}
+use mathlib.Core.Bool.{_&&_}
 use Prim.Native.Nat.{ℕ}
 use lib.Dec.{eqb}
 use lib.ListN.{length}
-use Rattle.call_outcomes.specs.Untallied.{rightLengths, storeOf}
-use Rattle.call_outcomes.specs.UntalliedLaws.{lengths-right}
+use Rattle.store_layout.specs.declared.Capacity.{Capacity}
+use Rattle.call_outcomes.specs.Untallied.{rightLengths}
 use Rattle.call_outcomes.specs.Slice.{lengthsWith}
 use Rattle.call_outcomes.specs.Plain.{plainView, plainStoreOf}
-use Rattle.call_outcomes.specs.Clubs.{clubs}
 
-module _ (slots counts tallies : List ℕ) where
-  -- Those of slots and counts decide where they are wrong,
-  pub sheet-wrong : rightLengths clubs (storeOf slots counts) ≡ false → false ≡ plainView clubs .rightLengths (plainStoreOf slots counts tallies)
-  unfolding lengthsWith
-  sheet-wrong h = rw h
-
-  -- and that of the tallies where they are right.
-  pub tallies-decide : length slots ≡ 4224 → length counts ≡ 256
-      → eqb (length tallies) 256 ≡ plainView clubs .rightLengths (plainStoreOf slots counts tallies)
-  unfolding lengthsWith
-  tallies-decide slots-are counts-are = rw (lengths-right clubs (storeOf slots counts) record { slots = slots-are; counts = counts-are })
+-- The test of the lengths is that of the view.
+pub lengths-tested : (cap : Capacity) (slots counts tallies : List ℕ)
+    → (eqb (length slots) (cap .slots) && eqb (length counts) (cap .counts) && eqb (length tallies) (cap .counts))
+    ≡ plainView cap .rightLengths (plainStoreOf slots counts tallies)
+unfolding lengthsWith rightLengths
+lengths-tested cap slots counts tallies = refl

@@ -10,15 +10,15 @@ use Rattle.call_outcomes.specs.Clubs.{clubs}
 use Rattle.call_orders.specs.Conversion.{toTree, toNumber, Convertible, Conversion, conversion}
 use Rattle.call_orders.specs.ConversionLaws.{conversion-done}
 
-module _ {counts work new : List ℕ} (c : Convertible clubs counts) where
-  -- Copied in as they stand, and written in the tree order.
-  pub tree-order-done : work ≡ counts → new ≡ countOrder (height (getD counts 0 0)) work
+module _ {counts new : List ℕ} (c : Convertible clubs counts) where
+  -- Written in the tree order.
+  pub tree-order-done : new ≡ countOrder (height (getD counts 0 0)) counts
       → _≡_ {A = Conversion} (record { answer = Converted (getD counts 0 0); counts = new }) (conversion clubs toTree counts)
   unfolding toTree
-  tree-order-done same written = rw (written, same) (sym (conversion-done clubs toTree counts c))
+  tree-order-done written = rw written (sym (conversion-done clubs toTree counts c))
 
-  -- Read by range number, and copied out as they stand.
-  pub number-order-done : work ≡ numberOrder (height (getD counts 0 0)) counts → new ≡ work
+  -- Read by range number.
+  pub number-order-done : new ≡ numberOrder (height (getD counts 0 0)) counts
       → _≡_ {A = Conversion} (record { answer = Converted (getD counts 0 0); counts = new }) (conversion clubs toNumber counts)
   unfolding toNumber
-  number-order-done read same = rw (same, read) (sym (conversion-done clubs toNumber counts c))
+  number-order-done read = rw read (sym (conversion-done clubs toNumber counts c))

@@ -17,10 +17,11 @@ pub fn to_tree_order(counts: &mut [u16]) -> Answer
     if 2047 < m {
         return Answer::Refused(Cause::NotASheet);
     }
-    let mut work = [0u32; 256];
-    store_counts::copy_in(counts, &mut work);
-    let size = Size { m: m };
-    store_counts::write_counts(size, &work, counts);
+    let mut from = [0u32; 256];
+    let mut to = [0u32; 256];
+    store_widths::widen(counts, &mut from);
+    store_counts::write_counts(Size { m: m }, &from, &mut to);
+    store_widths::narrow(&to, counts);
     Answer::Converted { m: m }
 }
 
@@ -35,9 +36,10 @@ pub fn to_number_order(counts: &mut [u16]) -> Answer
     if 2047 < m {
         return Answer::Refused(Cause::NotASheet);
     }
-    let mut work = [0u32; 256];
-    let size = Size { m: m };
-    store_counts::read_counts(size, counts, &mut work);
-    store_counts::copy_out(counts, &work);
+    let mut from = [0u32; 256];
+    let mut to = [0u32; 256];
+    store_widths::widen(counts, &mut from);
+    store_counts::read_counts(Size { m: m }, &from, &mut to);
+    store_widths::narrow(&to, counts);
     Answer::Converted { m: m }
 }

@@ -16,7 +16,7 @@ use Rattle.tree_counts.specs.RangeLaws.{below-itself, below-only, below-least, 
 use Rattle.store_balance.specs.Balance.{writeBalance, layBalance, HoldsBalance}
 
 -- Every number from 1 on and below 2 ^ levels is that of a range above the leaves.
-below-above : (levels j : ℕ) → 0 < j → j < 2 ^ levels → (d : ℕ) × (d < levels) × Below 1 d j
+pub below-above : (levels j : ℕ) → 0 < j → j < 2 ^ levels → (d : ℕ) × (d < levels) × Below 1 d j
 below-above zero j pos h = absurd (omega arith)
 below-above (suc levels) j pos h =
     let w = below-root levels j pos (rw (pow-succ' 2 levels) at h) in (w .0, omega (arith, w .1), w .2)

@@ -11,7 +11,7 @@ use tree_sizes::Size;
 use tree_sizes::power;
 
 // The first entry that stands from the slot `from` on, 0 if there is none.
-fn first_entry(slots: &[u64], from: usize) -> u64
+pub fn first_entry(slots: &[u64], from: usize) -> u64
     ensures { λ r. ⌜ r ≡ firstFrom (now (slots .entry)) from ⌝ }
 {
     let mut at = from;

@@ -4,7 +4,6 @@ use mathlib.Core.Logic.{⊎-elim}
 use Prim.Native.Nat.{ℕ, _+_, _-_, _*_, _/_, _%_, _^_, _≤_, _<_}
 use native.Mathlib.Nat.{div-add-mod, div-eq-of-lt-le, div-le-self, div-zero, le-div-iff-mul-le, mod-le, mod-lt, mod-zero, mul-div-cancel-left, mul-le-mul-right}
 use native.Mathlib.Omega.{arith}
-use Rattle.base.specs.Cases.{ifLt}
 use Rattle.base.specs.CaseLaws.{by-lt, ifLt-yes, ifLt-no, lt-or-ge}
 use Rattle.store_layout.specs.declared.Quotient.{Quotient}
 use Rattle.store_layout.specs.Leaf.{slotOf}

@@ -11,4 +11,4 @@ pub record Roomy (cap : Capacity) : Type 0 where
 -- The capacity is roomy, and has few enough entries for the sums of the code.
 pub record CapacityReady (cap : Capacity) : Type 0 where
   pub roomy : Roomy cap
-  pub few : cap .entries < 2 ^ 30
+  pub few : cap .entries < 2 ^ 29

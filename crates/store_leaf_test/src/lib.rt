@@ -1,31 +1,14 @@
 // The test whether slots are leaves with given numbers of entries: leaf by leaf, and by masks of the taken slots for leaves of the sizes that
-// the clubs' sheets have.
+// the clubs' sheets and the federation's list have.
 ghost use mathlib.Core.Path.{_≡_};
 ghost use Prim.Native.Nat.{_+_, _*_, _-_, _≤_, _<_};
-ghost use lib.ListN.{length, take, drop};
-ghost use Rattle.store_layout.specs.Leaf.{nonzero};
+ghost use lib.ListN.{take, drop};
 ghost use Rattle.store_leaf_test.specs.Ready.{LeafTestReady, LeavesTestReady};
 ghost use Rattle.store_leaf_test.specs.Check.{leafTest, leavesTest};
 ghost use Rattle.store_masks.specs.Mask.{masks};
 use store_layout::count_at;
+use store_masks::larger;
 use store_masks::table;
-
-// The number of entries in `len` slots from `from` on.
-fn entries_in(slots: &[u64], from: usize, len: usize) -> usize
-    requires room { ⌜ from + len ≤ length (now slots) ⌝ }
-    ensures { λ r. ⌜ r ≡ length (nonzero (take len (drop from (now (slots .entry))))) ⌝ }
-{
-    let mut n: usize = 0;
-    let mut i: usize = 0;
-    while i < len {
-        let content = slots[from + i];
-        i += 1;
-        if content != 0 {
-            n += 1;
-        }
-    }
-    n
-}
 
 // The s slots from `from` on hold n entries at the places of the leaf rule, and 0 in every other slot: there are n entries, and no place is
 // empty. The division stands before the count, so that the machine does both at once.
@@ -35,7 +18,7 @@ fn leaf_is_spread(slots: &[u64], from: usize, s: usize, n: usize) -> bool
 {
     let step = store_layout::position_step(s, n);
     let mut position = store_layout::first_position(s, n, step);
-    if entries_in(slots, from, s) != n {
+    if store_sums::entries_in(slots, from, s) != n {
         return false;
     }
     let mut k: usize = 0;
@@ -97,8 +80,40 @@ fn leaves_have_masks(
     all
 }
 
+// Leaves of s slots one after the other, for sizes that the clubs' tables do not have: by the masks of larger leaves, or one by one.
+fn other_leaves_are_spread(
+    slots: &[u64],
+    s: usize,
+    counts: &[u32],
+    first: usize,
+    leaves: usize,
+) -> bool
+    requires { ⌜ LeavesTestReady (now slots) s (now counts) first leaves ⌝ }
+    ensures { λ r. ⌜ r ≡ leavesTest s (take leaves (drop first (now (counts .entry)))) (now (slots .entry)) ⌝ }
+{
+    if s == 36 {
+        return leaves_have_masks(slots, 12, &larger::masks_of_36(), counts, first, leaves);
+    }
+    if s == 39 {
+        return leaves_have_masks(slots, 13, &larger::masks_of_39(), counts, first, leaves);
+    }
+    if s == 42 {
+        return leaves_have_masks(slots, 14, &larger::masks_of_42(), counts, first, leaves);
+    }
+    if s == 45 {
+        return leaves_have_masks(slots, 15, &larger::masks_of_45(), counts, first, leaves);
+    }
+    if s == 48 {
+        return leaves_have_masks(slots, 16, &larger::masks_of_48(), counts, first, leaves);
+    }
+    if s == 51 {
+        return leaves_have_masks(slots, 17, &larger::masks_of_51(), counts, first, leaves);
+    }
+    leaves_one_by_one(slots, s, counts, first, leaves)
+}
+
 // Leaves of s slots one after the other, from the first slot on: their numbers of entries stand in the counts from `first` on. The loops of
-// each size of the table are compiled for that size.
+// each size of the tables are compiled for that size.
 pub fn leaves_are_spread(
     slots: &[u64],
     s: usize,
@@ -124,5 +139,5 @@ pub fn leaves_are_spread(
     if s == 33 {
         return leaves_have_masks(slots, 11, &table::masks_of_33(), counts, first, leaves);
     }
-    leaves_one_by_one(slots, s, counts, first, leaves)
+    other_leaves_are_spread(slots, s, counts, first, leaves)
 }

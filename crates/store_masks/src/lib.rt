@@ -1,10 +1,12 @@
-// Which slots of a leaf are taken, as one number; and what that number is for leaves of the sizes that the clubs' sheets have, by tables.
+// Which slots of a leaf are taken, as one number; and what that number is for leaves of the sizes that the clubs' sheets and the federation's
+// list have, by tables.
 ghost use mathlib.Core.Path.{_≡_};
 ghost use Prim.Native.Nat.{_+_, _*_, _-_, _^_, _≤_, _<_};
 ghost use lib.ListN.{length, take, drop};
 ghost use Rattle.store_masks.specs.Mask.{isTaken, taken};
 
-pub mod table; // table.rt: the masks of leaves
+pub mod table; // table.rt: the masks of the clubs' leaves
+pub mod larger; // larger.rt: the masks of larger leaves
 
 // One more than the taken slots as a number, where the given number is that without the last slot.
 fn next_digit(number: u64, slot: u64) -> u64

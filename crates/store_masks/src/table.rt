@@ -1,4 +1,4 @@
-// The masks of leaves: which slots are taken by 0, 1, .., s entries in s slots, as binary numbers.
+// The masks of the clubs' leaves, those of 21 to 33 slots: which slots are taken by 0, 1, .., s entries in s slots, as binary numbers.
 ghost use mathlib.Core.Path.{_≡_};
 ghost use Rattle.store_masks.specs.Mask.{masks};
 

@@ -8,4 +8,5 @@ pub mod LocatedLaws
 pub mod PlanLaws
 pub mod LayPartLaws
 pub mod KeepLaws
+pub mod LeavesLaws
 pub mod CountBounds

@@ -23,6 +23,13 @@ partFrom M part = leafSlots M * leavesBefore M (part .range) (part .depth)
 unfoldable pub partLength : ℕ → Part → ℕ
 partLength M part = leafSlots M * leavesOf M (part .depth)
 
+-- The range numbers of its first and of its last leaf.
+abbrev pub firstLeaf : ℕ → Part → ℕ
+firstLeaf M part = part .range * leavesOf M (part .depth)
+
+abbrev pub lastLeaf : ℕ → Part → ℕ
+lastLeaf M part = firstLeaf M part + (leavesOf M (part .depth) - 1)
+
 -- The numbers of entries of the leaves of the part, by the counts.
 unfoldable pub partCounts : ℕ → Part → List ℕ → List ℕ
 partCounts M part counts = take (leavesOf M (part .depth)) (drop (part .range * leavesOf M (part .depth)) counts)

@@ -7,7 +7,7 @@ ghost use Prim.Native.Nat.{_+_, _*_, _^_, _<_, _≤_};
 ghost use lib.ListN.{length};
 ghost use Rattle.tree_sizes.specs.Sizes.{height};
 ghost use Rattle.store_part.specs.LayPart.{partEntries, PartReady, EntriesReady, layEntries, layPart, LayReady};
-ghost use Rattle.store_part.specs.Plan.{partFrom, partLength};
+ghost use Rattle.store_part.specs.Plan.{partFrom, partLength, firstLeaf, lastLeaf};
 ghost use Rattle.store_part.specs.Region.{leavesOf, leavesBefore};
 
 // How many leaves a range at this depth has.
@@ -51,15 +51,33 @@ fn part_length(size: Size, part: Part) -> usize
     size.leaf_slots() * region_leaves(size, depth)
 }
 
+// The range number of the first leaf of the part in a sheet of this size.
+pub fn first_leaf(size: Size, part: Part) -> usize
+    requires { ⌜ PartReady (size .m) part ⌝ }
+    ensures { λ r. ⌜ r ≡ firstLeaf (size .m) part ⌝ }
+{
+    let range = part.range;
+    let depth = part.depth;
+    range * region_leaves(size, depth)
+}
+
+// The range number of its last leaf.
+pub fn last_leaf(size: Size, part: Part) -> usize
+    requires { ⌜ PartReady (size .m) part ⌝ }
+    ensures { λ r. ⌜ r ≡ lastLeaf (size .m) part ⌝ }
+{
+    let depth = part.depth;
+    first_leaf(size, part) + (region_leaves(size, depth) - 1)
+}
+
 // Lays the leaves of the part out from the list, by the counts, in a sheet of this size.
 fn lay_entries(slots: &mut [u64], size: Size, part: Part, counts: &[u32], list: &mut [u64])
     requires { ⌜ EntriesReady (size .m) part (now counts) (now list) (now slots) ⌝ }
     ensures { λ _. ⌜ now (slots .exit) ≡ layEntries (size .m) part (now (counts .entry)) (now (list .entry)) (now (slots .entry)) ⌝ }
 {
-    let range = part.range;
     let depth = part.depth;
     let leaves = region_leaves(size, depth);
-    let first = range * leaves;
+    let first = first_leaf(size, part);
     let from = part_from(size, part);
     store_spread::lay_leaves(slots, from, size.leaf_slots(), counts, first, leaves, list);
 }

@@ -18,7 +18,7 @@ use Rattle.store_sums.specs.IsRangeLaws.{range-from, range-end}
 
 -- A part is the same in two lists that begin alike, and in two that end alike.
 module _ (from n : ℕ) (xs ys : List ℕ) where
-  part-before : (end : ℕ) → from + n ≤ end → take end xs ≡ take end ys → take n (drop from xs) ≡ take n (drop from ys)
+  pub part-before : (end : ℕ) → from + n ≤ end → take end xs ≡ take end ys → take n (drop from xs) ≡ take n (drop from ys)
   part-before end h same = sym (inside xs) ∙ ap (λ (zs : List ℕ). take n (drop from zs)) same ∙ inside ys
     where
       inside : (zs : List ℕ) → take n (drop from (take end zs)) ≡ take n (drop from zs)

@@ -6,7 +6,9 @@ pub mod TreeIn
 pub mod IsRangeLaws
 pub mod SumLaws
 pub mod UpdatingLaws
+pub mod AddUpLaws
 pub mod SmallLaws
 pub mod KeptLaws
+pub mod PlacedLaws
 pub mod LaidLaws
 pub mod TreeInLaws

@@ -1,5 +1,5 @@
 -- Slots and size parameter of a sheet fix its list and its shape.
-use mathlib.Core.Path.{_≡_, refl, sym, ap, ap₂, _∙_}
+use mathlib.Core.Path.{_≡_, refl, sym, ap, _∙_}
 use mathlib.Core.List.{List, [], _++_, append-assoc, append-nil}
 use Prim.Native.Nat.{ℕ, zero, suc, _-_, _*_, _^_, _<_}
 use native.Mathlib.Omega.{arith}
@@ -12,7 +12,6 @@ use Rattle.tree_sizes.specs.SizeLaws.{candidate-below}
 use Rattle.tree_sizes.specs.Fit.{fit, fits-count, fits-halves}
 use Rattle.tree_rules.specs.Tree.{Tree, leaf, node, Balanced, Shape}
 use Rattle.store_layout.specs.declared.Capacity.{Capacity}
-use Rattle.store_layout.specs.Leaf.{nonzero}
 use Rattle.store_layout.specs.Layout.{leafCounts, layLeaves, padTo, laySlots, layOut}
 use Rattle.store_layout.specs.Sheet.{IsContents}
 use Rattle.store_layout.specs.Decode.{listOf}

@@ -7,9 +7,13 @@ use Rattle.tree_sizes.specs.Sizes.{height}
 use Rattle.store_sums.specs.Range.{IsRange}
 use Rattle.store_sums.specs.Numbers.{Additive, numberAt, NumbersBut, NumbersIn}
 
+-- The words are what f gives from `first` up to, not including, `end`.
+abbrev pub Agrees : (ℕ → ℕ) → ℕ → ℕ → List ℕ → Type 0
+Agrees f first end words = (k : ℕ) → first ≤ k → k < end → getD words k 0 ≡ f k
+
 -- The new numbers are what f gives from `first` up to, not including, `end`, and the old ones elsewhere.
 pub record Filled (f : ℕ → ℕ) (first end : ℕ) (old new : List ℕ) : Type 0 where
-  pub inside : (k : ℕ) → first ≤ k → k < end → getD new k 0 ≡ f k
+  pub inside : Agrees f first end new
   pub front : (k : ℕ) → k < first → getD new k 0 ≡ getD old k 0
   pub behind : (k : ℕ) → end ≤ k → getD new k 0 ≡ getD old k 0
   pub kept : length new ≡ length old

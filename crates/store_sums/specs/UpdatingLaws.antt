@@ -14,7 +14,16 @@ use Rattle.tree_sizes.specs.SizeLaws.{below-power, slots-le}
 use Rattle.store_sums.specs.Range.{IsRange}
 use Rattle.store_sums.specs.Numbers.{Additive, numberAt, NumbersBut, NumbersIn}
 use Rattle.store_sums.specs.SumLaws.{row-twice, range-left, range-right, range-small, number-halves}
-use Rattle.store_sums.specs.Updating.{Filled, halvesSum, Updating}
+use Rattle.store_sums.specs.Updating.{Agrees, Filled, halvesSum, Updating}
+
+-- ---- the loop that tests words
+
+module _ (f : ℕ → ℕ) (first : ℕ) (words : List ℕ) where
+  pub agrees-none : Agrees f first first words
+  agrees-none k l m = absurd (omega arith)
+
+  pub agrees-next : (k : ℕ) → Agrees f first k words → getD words k 0 ≡ f k → Agrees f first (k + 1) words
+  agrees-next k w is j l m = ⊎-elim (λ (e : j ≡ k). rw e is) (λ (n : j < k). w j l n) (eq-or-lt-of-le (omega arith))
 
 -- ---- the loop that fills a row
 

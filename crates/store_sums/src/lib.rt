@@ -1,5 +1,7 @@
-// Numbers of the ranges of a sheet that add up from the leaves: the rows above the leaves; and the counts that the slots give.
+// Numbers of the ranges of a sheet that add up from the leaves: the rows above the leaves added and tested; and the counts that the slots give.
 ghost use mathlib.Core.Path.{_≡_};
+ghost use mathlib.Core.Bool.{true};
+ghost use mathlib.Core.Logic.{_↔_};
 ghost use mathlib.Core.List.{[], _∷_};
 ghost use Prim.Native.Nat.{ℕ, _+_, _*_, _^_, _≤_, _<_};
 ghost use lib.ListN.{length, take, drop, replicate};
@@ -7,7 +9,7 @@ ghost use Rattle.tree_sizes.specs.Sizes as sizes;
 ghost use Rattle.tree_sizes.specs.Sizes.{height};
 ghost use Rattle.store_layout.specs.Leaf.{nonzero};
 ghost use Rattle.store_sums.specs.Numbers.{numberAt, NumbersIn};
-ghost use Rattle.store_sums.specs.Updating.{Filled, halvesSum, RowsReady, RowsAdded};
+ghost use Rattle.store_sums.specs.Updating.{Agrees, Filled, halvesSum, RowsReady, RowsAdded};
 use tree_sizes::Size;
 use tree_sizes::power;
 
@@ -39,6 +41,23 @@ pub fn add_rows(numbers: &mut [u32], first: usize, last: usize)
     }
 }
 
+// The numbers of the ranges from 1 up to, not including, `end` are the sums over their halves.
+pub fn halves_add_up(numbers: &[u32], end: usize) -> bool
+    requires { ⌜ 2 * end ≤ length (now numbers) ⌝ }
+    ensures { λ r. ⌜ (r ≡ true) ↔ Agrees (halvesSum (now (numbers .entry))) 1 end (now (numbers .entry)) ⌝ }
+{
+    let mut k: usize = 1;
+    while k < end {
+        let left = numbers[2 * k] as usize;
+        let right = numbers[2 * k + 1] as usize;
+        if numbers[k] as usize != left + right {
+            return false;
+        }
+        k += 1;
+    }
+    true
+}
+
 // The number of entries in one slot: 1 or 0.
 fn entry_in(slot: u64) -> usize
     ensures { λ r. ⌜ r ≡ length (nonzero (slot ∷ [])) ⌝ }
@@ -50,7 +69,7 @@ fn entry_in(slot: u64) -> usize
 }
 
 // The number of entries in the `len` slots from `from` on.
-fn entries_in(slots: &[u64], from: usize, len: usize) -> usize
+pub fn entries_in(slots: &[u64], from: usize, len: usize) -> usize
     requires room { ⌜ from + len ≤ length (now slots) ⌝ }
     ensures { λ r. ⌜ r ≡ length (nonzero (take len (drop from (now (slots .entry))))) ⌝ }
 {

@@ -1,5 +1,4 @@
 -- The number of scoring entries adds up.
-use native.Mathlib.Omega.{arith}
 use mathlib.Core.Path.{refl}
 use Rattle.store_scoring.specs.Scoring.{tally}
 use Rattle.store_scoring.specs.ScoringLaws.{tally-append, tally-most}

@@ -31,7 +31,7 @@ use Rattle.store_tallies.specs.LayLaws.{tallies-counts}
 -- ---- number 0 written anew
 
 -- It keeps its place in the order of the counts.
-order-set : (h : ℕ) (xs : List ℕ) (x : ℕ) → 0 < length xs → countOrder h (set xs 0 x) ≡ set (countOrder h xs) 0 x
+pub order-set : (h : ℕ) (xs : List ℕ) (x : ℕ) → 0 < length xs → countOrder h (set xs 0 x) ≡ set (countOrder h xs) 0 x
 order-set h xs x pos =
     ext-getD 0 (countOrder h (set xs 0 x)) (set (countOrder h xs) 0 x)
     (length-countOrder h (set xs 0 x) ∙ length-set xs 0 x ∙ sym (length-set (countOrder h xs) 0 x ∙ length-countOrder h xs))

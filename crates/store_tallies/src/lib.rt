@@ -1,11 +1,13 @@
 // The tallies of a sheet: for each range the number of its scoring entries.
 ghost use mathlib.Core.Path.{_≡_};
+ghost use mathlib.Core.Bool.{true};
+ghost use mathlib.Core.Logic.{_↔_};
 ghost use Prim.Native.Nat.{_+_, _*_, _^_, _≤_, _<_};
 ghost use lib.ListN.{length};
 ghost use Rattle.tree_sizes.specs.Sizes as sizes;
 ghost use Rattle.tree_sizes.specs.Sizes.{height};
 ghost use Rattle.store_tallies.specs.TalliesIn.{tallyAt, LeavesCounted, TalliesBut, TalliesIn};
-ghost use Rattle.store_sums.specs.Updating.{Filled};
+ghost use Rattle.store_sums.specs.Updating.{Agrees, Filled};
 ghost use Rattle.store_tallies.specs.Path.{pathTally};
 use store_layout::count_at;
 use store_scoring::tally_of;
@@ -59,6 +61,49 @@ pub fn update_tallies(
 {
     count_leaves(size, slots, counts, first, last + 1, tallies);
     store_sums::add_rows(tallies, first, last);
+}
+
+// The numbers of the leaves, whose counts are given, are their numbers of scoring entries.
+fn leaves_have_tallies(size: Size, slots: &[u64], counts: &[u32], numbers: &[u32]) -> bool
+    requires most { ⌜ size .m < 2 ^ 30 ⌝ }
+    requires slots { ⌜ sizes.slots (size .m) ≤ length (now slots) ⌝ }
+    requires room { ⌜ 2 * 2 ^ height (size .m) ≤ length (now numbers) ⌝ }
+    requires counts { ⌜ 2 * 2 ^ height (size .m) ≤ length (now counts) ⌝ }
+    requires counted { ⌜ LeavesCounted (size .m) (now slots) (2 ^ height (size .m)) (2 * 2 ^ height (size .m)) (now counts) ⌝ }
+    ensures { λ r. ⌜ (r ≡ true) ↔ Agrees (tallyAt (size .m) (now (slots .entry)) 0) (2 ^ height (size .m)) (2 * 2 ^ height (size .m)) (now (numbers .entry)) ⌝ }
+{
+    let s = size.leaf_slots();
+    let leaves = power(size.height());
+    let mut k = leaves;
+    while k < 2 * leaves {
+        if count_at(numbers, k) != tally_of(slots, s * (k - leaves), s, count_at(counts, k)) {
+            return false;
+        }
+        k += 1;
+    }
+    true
+}
+
+// The numbers are the tallies by range number; those of the leaves go by their slots, the others by their halves.
+pub fn are_tallies(size: Size, slots: &[u64], counts: &[u32], numbers: &[u32]) -> bool
+    requires most { ⌜ size .m < 2 ^ 30 ⌝ }
+    requires slots { ⌜ sizes.slots (size .m) ≤ length (now slots) ⌝ }
+    requires room { ⌜ 2 * 2 ^ height (size .m) ≤ length (now numbers) ⌝ }
+    requires counts { ⌜ 2 * 2 ^ height (size .m) ≤ length (now counts) ⌝ }
+    requires counted { ⌜ LeavesCounted (size .m) (now slots) (2 ^ height (size .m)) (2 * 2 ^ height (size .m)) (now counts) ⌝ }
+    ensures { λ r. ⌜ (r ≡ true) ↔ TalliesIn (size .m) (now (slots .entry)) (now (numbers .entry)) ⌝ }
+{
+    if count_at(numbers, 0) != 0 {
+        return false;
+    }
+    if !leaves_have_tallies(size, slots, counts, numbers) {
+        return false;
+    }
+    let leaves = power(size.height());
+    if !store_sums::halves_add_up(numbers, leaves) {
+        return false;
+    }
+    store_zeros::counts_are_zero(numbers, 2 * leaves)
 }
 
 // The number of scoring entries before the leaf with this range number: on the way down to it, the tallies of the left halves of which the

@@ -1,4 +1,4 @@
-// Slices of tallies compared, the tally of the whole sheet, and the tallies of a sheet without retired boats: its counts, with 0 at number 0.
+// Tallies compared with the counts, the tally of the whole sheet, and the tallies of a sheet without retired boats: its counts, with 0 at number 0.
 ghost use mathlib.Core.Path.{_≡_};
 ghost use mathlib.Core.List.{_∷_};
 ghost use Prim.Native.Nat.{_<_};
@@ -7,11 +7,11 @@ ghost use Rattle.base.specs.Lists.{equalLists};
 
 // The numbers of both slices from `from` on are the same. The differences are joined bit by bit and compared with 0 once, since in a sheet
 // all have to be looked at.
-fn same_from(a: &[u16], b: &[u16], from: usize) -> bool
+fn same_from(a: &[u32], b: &[u32], from: usize) -> bool
     requires { ⌜ length (now a) ≡ length (now b) ⌝ }
     ensures { λ r. ⌜ r ≡ equalLists (drop from (now (a .entry))) (drop from (now (b .entry))) ⌝ }
 {
-    let mut joined: u16 = 0;
+    let mut joined: u32 = 0;
     let mut k = from;
     while k < a.len() {
         joined = joined | (a[k] ^ b[k]);
@@ -20,16 +20,8 @@ fn same_from(a: &[u16], b: &[u16], from: usize) -> bool
     joined == 0
 }
 
-// The two slices hold the same numbers.
-pub fn same_numbers(a: &[u16], b: &[u16]) -> bool
-    requires { ⌜ length (now a) ≡ length (now b) ⌝ }
-    ensures { λ r. ⌜ r ≡ equalLists (now (a .entry)) (now (b .entry)) ⌝ }
-{
-    same_from(a, b, 0)
-}
-
 // The tally of the whole sheet: that of the root, at number 1.
-pub fn root_tally(tallies: &[u16]) -> usize
+pub fn root_tally(tallies: &[u32]) -> usize
     requires { ⌜ 1 < length (now tallies) ⌝ }
     ensures { λ r. ⌜ r ≡ getD (now (tallies .entry)) 1 0 ⌝ }
 {
@@ -37,7 +29,7 @@ pub fn root_tally(tallies: &[u16]) -> usize
 }
 
 // The tallies are the counts, but 0 at number 0.
-pub fn are_counts(tallies: &[u16], counts: &[u16]) -> bool
+pub fn are_counts(tallies: &[u32], counts: &[u32]) -> bool
     requires lengths { ⌜ length (now tallies) ≡ length (now counts) ⌝ }
     requires some { ⌜ 0 < length (now tallies) ⌝ }
     ensures { λ r. ⌜ r ≡ equalLists (now (tallies .entry)) (0 ∷ drop 1 (now (counts .entry))) ⌝ }
@@ -49,7 +41,7 @@ pub fn are_counts(tallies: &[u16], counts: &[u16]) -> bool
 }
 
 // Copies the numbers from 1 on; number 0 is not written.
-pub fn copy_ranges(to: &mut [u16], from: &[u16])
+pub fn copy_ranges(to: &mut [u32], from: &[u32])
     requires lengths { ⌜ length (now to) ≡ length (now from) ⌝ }
     requires some { ⌜ 0 < length (now to) ⌝ }
     ensures { λ _. ⌜ now (to .exit) ≡ getD (now (to .entry)) 0 0 ∷ drop 1 (now (from .entry)) ⌝ }
@@ -62,7 +54,7 @@ pub fn copy_ranges(to: &mut [u16], from: &[u16])
 }
 
 // Makes the tallies the counts, but 0 at number 0.
-pub fn copy_counts(tallies: &mut [u16], counts: &[u16])
+pub fn copy_counts(tallies: &mut [u32], counts: &[u32])
     requires lengths { ⌜ length (now tallies) ≡ length (now counts) ⌝ }
     requires some { ⌜ 0 < length (now tallies) ⌝ }
     ensures { λ _. ⌜ now (tallies .exit) ≡ 0 ∷ drop 1 (now (counts .entry)) ⌝ }

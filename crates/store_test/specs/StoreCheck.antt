@@ -134,7 +134,7 @@ module _ {all counts : List ℕ} (ready : SlotsTestReady all counts) where
 pub counts-ready : {cap : Capacity} → CapacityReady cap → (counts : List ℕ) → length counts ≡ cap .counts
     → CountsTestReady (cap .entries) counts
 counts-ready ready counts counts-are = record {
-  few = ready .few;
+  few = omega (arith, ready .few);
   room = λ N M few allowed. rw counts-are (ready .roomy .counts-fit N M few allowed);
 }
 

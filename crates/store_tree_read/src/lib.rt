@@ -7,16 +7,15 @@ ghost use Rattle.store_order.specs.Copied.{putTo};
 ghost use Rattle.store_order.specs.TreeReady.{TreeReady};
 
 // Copies the counts of the tree of one level below range k, which stand from `at` on, to the numbers of their ranges.
-fn read_one(counts: &[u16], at: usize, work: &mut [u32], k: usize)
+fn read_one(counts: &[u32], at: usize, work: &mut [u32], k: usize)
     requires { ⌜ TreeReady 1 at k (length (now counts)) (length (now work)) ⌝ }
     ensures { λ _. ⌜ now (work .exit) ≡ putTo at (treeOrder 1 k) (now (counts .entry)) (now (work .entry)) ⌝ }
 {
-    let count = counts[at];
-    work[k] = count as u32;
+    work[k] = counts[at];
 }
 
 // The same of two levels.
-fn read_two(counts: &[u16], at: usize, work: &mut [u32], k: usize)
+fn read_two(counts: &[u32], at: usize, work: &mut [u32], k: usize)
     requires { ⌜ TreeReady 2 at k (length (now counts)) (length (now work)) ⌝ }
     ensures { λ _. ⌜ now (work .exit) ≡ putTo at (treeOrder 2 k) (now (counts .entry)) (now (work .entry)) ⌝ }
 {
@@ -26,7 +25,7 @@ fn read_two(counts: &[u16], at: usize, work: &mut [u32], k: usize)
 }
 
 // The same of three levels.
-fn read_three(counts: &[u16], at: usize, work: &mut [u32], k: usize)
+fn read_three(counts: &[u32], at: usize, work: &mut [u32], k: usize)
     requires { ⌜ TreeReady 3 at k (length (now counts)) (length (now work)) ⌝ }
     ensures { λ _. ⌜ now (work .exit) ≡ putTo at (treeOrder 3 k) (now (counts .entry)) (now (work .entry)) ⌝ }
 {
@@ -36,7 +35,7 @@ fn read_three(counts: &[u16], at: usize, work: &mut [u32], k: usize)
 }
 
 // The same of four levels.
-fn read_four(counts: &[u16], at: usize, work: &mut [u32], k: usize)
+fn read_four(counts: &[u32], at: usize, work: &mut [u32], k: usize)
     requires { ⌜ TreeReady 4 at k (length (now counts)) (length (now work)) ⌝ }
     ensures { λ _. ⌜ now (work .exit) ≡ putTo at (treeOrder 4 k) (now (counts .entry)) (now (work .entry)) ⌝ }
 {
@@ -48,7 +47,7 @@ fn read_four(counts: &[u16], at: usize, work: &mut [u32], k: usize)
 }
 
 // The same of up to four levels.
-fn read_small(counts: &[u16], at: usize, work: &mut [u32], levels: usize, k: usize)
+fn read_small(counts: &[u32], at: usize, work: &mut [u32], levels: usize, k: usize)
     requires tree { ⌜ TreeReady levels at k (length (now counts)) (length (now work)) ⌝ }
     requires small { ⌜ levels ≤ 4 ⌝ }
     ensures { λ _. ⌜ now (work .exit) ≡ putTo at (treeOrder levels k) (now (counts .entry)) (now (work .entry)) ⌝ }
@@ -70,7 +69,7 @@ fn read_small(counts: &[u16], at: usize, work: &mut [u32], levels: usize, k: usi
 
 // The same of any number of levels: the top half of them, rounded down, then the subtrees below it from left to right. Small subtrees, which are
 // all of those of trees of up to eight levels, need no call of itself.
-pub fn read_tree(counts: &[u16], at: usize, work: &mut [u32], levels: usize, k: usize)
+pub fn read_tree(counts: &[u32], at: usize, work: &mut [u32], levels: usize, k: usize)
     requires { ⌜ TreeReady levels at k (length (now counts)) (length (now work)) ⌝ }
     ensures { λ _. ⌜ now (work .exit) ≡ putTo at (treeOrder levels k) (now (counts .entry)) (now (work .entry)) ⌝ }
 {

@@ -1,26 +1,22 @@
 // The counts of a tree's ranges, copied from a work array by range number to their places in a store.
 ghost use mathlib.Core.Path.{_≡_};
-ghost use Prim.Native.Nat.{_^_, _<_, _≤_};
+ghost use Prim.Native.Nat.{_≤_};
 ghost use lib.ListN.{length};
-ghost use Rattle.base.specs.Lists.{Every};
 ghost use Rattle.store_order.specs.TreeOrder.{treeOrder};
 ghost use Rattle.store_order.specs.Copied.{putFrom};
 ghost use Rattle.store_order.specs.TreeReady.{TreeReady};
 
-// Copies the counts of the tree of one level below range k, which fit, from the numbers of their ranges to their places from `at` on.
-fn write_one(counts: &mut [u16], at: usize, work: &[u32], k: usize)
-    requires tree { ⌜ TreeReady 1 at k (length (now counts)) (length (now work)) ⌝ }
-    requires fit { ⌜ Every (λ c. c < 2 ^ 16) (now work) ⌝ }
+// Copies the counts of the tree of one level below range k from the numbers of their ranges to their places from `at` on.
+fn write_one(counts: &mut [u32], at: usize, work: &[u32], k: usize)
+    requires { ⌜ TreeReady 1 at k (length (now counts)) (length (now work)) ⌝ }
     ensures { λ _. ⌜ now (counts .exit) ≡ putFrom at (treeOrder 1 k) (now (work .entry)) (now (counts .entry)) ⌝ }
 {
-    let count = work[k];
-    counts[at] = count as u16;
+    counts[at] = work[k];
 }
 
 // The same of two levels.
-fn write_two(counts: &mut [u16], at: usize, work: &[u32], k: usize)
-    requires tree { ⌜ TreeReady 2 at k (length (now counts)) (length (now work)) ⌝ }
-    requires fit { ⌜ Every (λ c. c < 2 ^ 16) (now work) ⌝ }
+fn write_two(counts: &mut [u32], at: usize, work: &[u32], k: usize)
+    requires { ⌜ TreeReady 2 at k (length (now counts)) (length (now work)) ⌝ }
     ensures { λ _. ⌜ now (counts .exit) ≡ putFrom at (treeOrder 2 k) (now (work .entry)) (now (counts .entry)) ⌝ }
 {
     write_one(counts, at, work, k);
@@ -29,9 +25,8 @@ fn write_two(counts: &mut [u16], at: usize, work: &[u32], k: usize)
 }
 
 // The same of three levels.
-fn write_three(counts: &mut [u16], at: usize, work: &[u32], k: usize)
-    requires tree { ⌜ TreeReady 3 at k (length (now counts)) (length (now work)) ⌝ }
-    requires fit { ⌜ Every (λ c. c < 2 ^ 16) (now work) ⌝ }
+fn write_three(counts: &mut [u32], at: usize, work: &[u32], k: usize)
+    requires { ⌜ TreeReady 3 at k (length (now counts)) (length (now work)) ⌝ }
     ensures { λ _. ⌜ now (counts .exit) ≡ putFrom at (treeOrder 3 k) (now (work .entry)) (now (counts .entry)) ⌝ }
 {
     write_one(counts, at, work, k);
@@ -40,9 +35,8 @@ fn write_three(counts: &mut [u16], at: usize, work: &[u32], k: usize)
 }
 
 // The same of four levels.
-fn write_four(counts: &mut [u16], at: usize, work: &[u32], k: usize)
-    requires tree { ⌜ TreeReady 4 at k (length (now counts)) (length (now work)) ⌝ }
-    requires fit { ⌜ Every (λ c. c < 2 ^ 16) (now work) ⌝ }
+fn write_four(counts: &mut [u32], at: usize, work: &[u32], k: usize)
+    requires { ⌜ TreeReady 4 at k (length (now counts)) (length (now work)) ⌝ }
     ensures { λ _. ⌜ now (counts .exit) ≡ putFrom at (treeOrder 4 k) (now (work .entry)) (now (counts .entry)) ⌝ }
 {
     write_two(counts, at, work, k);
@@ -53,10 +47,9 @@ fn write_four(counts: &mut [u16], at: usize, work: &[u32], k: usize)
 }
 
 // The same of up to four levels.
-fn write_small(counts: &mut [u16], at: usize, work: &[u32], levels: usize, k: usize)
+fn write_small(counts: &mut [u32], at: usize, work: &[u32], levels: usize, k: usize)
     requires tree { ⌜ TreeReady levels at k (length (now counts)) (length (now work)) ⌝ }
     requires small { ⌜ levels ≤ 4 ⌝ }
-    requires fit { ⌜ Every (λ c. c < 2 ^ 16) (now work) ⌝ }
     ensures { λ _. ⌜ now (counts .exit) ≡ putFrom at (treeOrder levels k) (now (work .entry)) (now (counts .entry)) ⌝ }
 {
     if levels == 4 {
@@ -76,9 +69,8 @@ fn write_small(counts: &mut [u16], at: usize, work: &[u32], levels: usize, k: us
 
 // The same of any number of levels: the top half of them, rounded down, then the subtrees below it from left to right. Small subtrees, which are
 // all of those of trees of up to eight levels, need no call of itself.
-pub fn write_tree(counts: &mut [u16], at: usize, work: &[u32], levels: usize, k: usize)
-    requires tree { ⌜ TreeReady levels at k (length (now counts)) (length (now work)) ⌝ }
-    requires fit { ⌜ Every (λ c. c < 2 ^ 16) (now work) ⌝ }
+pub fn write_tree(counts: &mut [u32], at: usize, work: &[u32], levels: usize, k: usize)
+    requires { ⌜ TreeReady levels at k (length (now counts)) (length (now work)) ⌝ }
     ensures { λ _. ⌜ now (counts .exit) ≡ putFrom at (treeOrder levels k) (now (work .entry)) (now (counts .entry)) ⌝ }
 {
     if levels <= 4 {

@@ -1,4 +1,4 @@
-// The calls of timed sheets for programs in C: the number of the cause is returned, and two or three values stand in an answer slice.
+// The calls of the clubs' timed sheets for programs in C: the number of the cause is returned, and two or three values stand in an answer slice.
 ghost use mathlib.Core.Path.{_≡_};
 ghost use mathlib.Core.List.{[]};
 ghost use lib.ListN.{length};

@@ -23,12 +23,14 @@ pub fn clear(
     ensures { λ r. ⌜ timedOutcomeOf r (now (slots .exit)) (now (counts .exit)) (now (tallies .exit)) (now (balance .exit)) []
         ≡ outcome (timed clubs) clear [] (timedStoreOf (now (slots .entry)) (now (counts .entry)) (now (tallies .entry)) (now (balance .entry))) [] ⌝ }
 {
-    if !timed_open::lengths_are_right(slots, counts, tallies, balance) {
+    let cap = sheet_clubs::capacity();
+    if !timed_open::right_lengths(cap, slots.len(), counts.len(), tallies.len(), balance.len()) {
         return Answer::Refused(Cause::Lengths);
     }
+    let zeros = [0u32; 256];
     store_slices::zero_slots(slots, 0, 4224);
-    store_counts::zero_counts(counts);
-    store_counts::zero_counts(tallies);
+    store_widths::narrow(&zeros, counts);
+    store_widths::narrow(&zeros, tallies);
     store_slices::zero_slots(balance, 0, 256);
     Answer::Cleared
 }
@@ -45,8 +47,9 @@ pub fn insert(
     ensures { λ r. ⌜ timedOutcomeOf r (now (slots .exit)) (now (counts .exit)) (now (tallies .exit)) (now (balance .exit)) []
         ≡ outcome (timed clubs) (call.insert entry) (now (tape .entry)) (timedStoreOf (now (slots .entry)) (now (counts .entry)) (now (tallies .entry)) (now (balance .entry))) [] ⌝ }
 {
+    let mut counts32 = [0u32; 256];
     let mut work = [0u32; 256];
-    match timed_open::examine(slots, counts, tallies, balance, &mut work) {
+    match timed_clubs::open(slots, counts, tallies, balance, &mut counts32, &mut work) {
         Opened::Sheet { n, m } => {
             if store_keys::key(entry) == 0 {
                 return Answer::Refused(Cause::EntryZero);
@@ -59,11 +62,12 @@ pub fn insert(
                 return Answer::Refused(Cause::Full);
             }
             let change = Change::Insert(sought.rank);
-            timed_change::change(
+            timed_clubs::change(
                 slots,
                 counts,
                 tallies,
                 balance,
+                &mut counts32,
                 &mut work,
                 n,
                 m,
@@ -88,16 +92,18 @@ pub fn delete(
     ensures { λ r. ⌜ timedOutcomeOf r (now (slots .exit)) (now (counts .exit)) (now (tallies .exit)) (now (balance .exit)) []
         ≡ outcome (timed clubs) (call.delete rank) (now (tape .entry)) (timedStoreOf (now (slots .entry)) (now (counts .entry)) (now (tallies .entry)) (now (balance .entry))) [] ⌝ }
 {
+    let mut counts32 = [0u32; 256];
     let mut work = [0u32; 256];
-    let opened = timed_open::examine(slots, counts, tallies, balance, &mut work);
+    let opened = timed_clubs::open(slots, counts, tallies, balance, &mut counts32, &mut work);
     match call_open::admit_rank(opened, rank) {
         Opened::Sheet { n, m } => {
             let change = Change::Delete(rank);
-            timed_change::change(
+            timed_clubs::change(
                 slots,
                 counts,
                 tallies,
                 balance,
+                &mut counts32,
                 &mut work,
                 n,
                 m,
@@ -116,7 +122,7 @@ pub fn find(slots: &[u64], counts: &[u16], tallies: &[u16], balance: &[u64], ent
         ≡ outcome (timed clubs) (call.find entry) [] (timedStoreOf (now (slots .entry)) (now (counts .entry)) (now (tallies .entry)) (now (balance .entry))) [] ⌝ }
 {
     let mut work = [0u32; 256];
-    match timed_open::examine(slots, counts, tallies, balance, &mut work) {
+    match timed_clubs::examine(slots, counts, tallies, balance, &mut work) {
         Opened::Sheet { n: _, m } => {
             if store_keys::key(entry) == 0 {
                 return Answer::Refused(Cause::EntryZero);
@@ -146,7 +152,7 @@ pub fn read(
         (timedStoreOf (now (slots .entry)) (now (counts .entry)) (now (tallies .entry)) (now (balance .entry))) (now (output .entry)) ⌝ }
 {
     let mut work = [0u32; 256];
-    let opened = timed_open::examine(slots, counts, tallies, balance, &mut work);
+    let opened = timed_clubs::examine(slots, counts, tallies, balance, &mut work);
     call_questions::read(opened, slots, &work, first, last, output)
 }
 
@@ -156,9 +162,16 @@ pub fn place(slots: &[u64], counts: &[u16], tallies: &[u16], balance: &[u64], ra
         ≡ outcome (timed clubs) (call.place rank) [] (timedStoreOf (now (slots .entry)) (now (counts .entry)) (now (tallies .entry)) (now (balance .entry))) [] ⌝ }
 {
     let mut work = [0u32; 256];
-    let opened = timed_open::examine(slots, counts, tallies, balance, &mut work);
     let mut numbers = [0u32; 256];
-    call_questions::place(opened, slots, &work, tallies, &mut numbers, rank)
+    let opened = timed_clubs::examine_numbers(
+        slots,
+        counts,
+        tallies,
+        balance,
+        &mut work,
+        &mut numbers,
+    );
+    call_questions::place(opened, slots, &work, &numbers, rank)
 }
 
 // The number of entries of a sheet.
@@ -167,7 +180,7 @@ pub fn check(slots: &[u64], counts: &[u16], tallies: &[u16], balance: &[u64]) ->
         ≡ outcome (timed clubs) call.check [] (timedStoreOf (now (slots .entry)) (now (counts .entry)) (now (tallies .entry)) (now (balance .entry))) [] ⌝ }
 {
     let mut work = [0u32; 256];
-    let opened = timed_open::examine(slots, counts, tallies, balance, &mut work);
+    let opened = timed_clubs::examine(slots, counts, tallies, balance, &mut work);
     call_questions::check(opened)
 }
 
@@ -185,6 +198,6 @@ pub fn board(
         (timedStoreOf (now (slots .entry)) (now (counts .entry)) (now (tallies .entry)) (now (balance .entry))) (now (output .entry)) ⌝ }
 {
     let mut work = [0u32; 256];
-    let opened = timed_open::examine(slots, counts, tallies, balance, &mut work);
+    let opened = timed_clubs::examine(slots, counts, tallies, balance, &mut work);
     call_questions::board(opened, slots, &work, ranks, output)
 }

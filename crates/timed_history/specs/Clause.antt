@@ -1,30 +1,20 @@
 -- Demand 3 for the clubs' timed sheets: the theory of any kind of sheet, at this one.
 use mathlib.Core.Path.{_≡_}
-use mathlib.Core.Bool.{Bool, true, false}
-use mathlib.Core.Logic.{_↔_, _≢_}
+use mathlib.Core.Logic.{_↔_}
 use mathlib.Core.List.{List, _∷_}
-use mathlib.Core.Option.{some}
-use Prim.Native.Nat.{ℕ}
-use native.Mathlib.Omega.{arith}
 use lib.ListN.{length}
 use Rattle.draw_shares.specs.Fraction.{_≐_, unit}
 use Rattle.draw_shares.specs.Course.{Follows, share}
 use Rattle.tree_rules.specs.Tree.{Shape, IsShape}
 use Rattle.tree_canonical.specs.ShapeShare.{shapeProduct}
-use Rattle.call_outcomes.specs.declared.Cause.the-variants.{EntryZero, EntryPresent, Rank, Full, TapeEnded}
-use Rattle.call_outcomes.specs.declared.Answer.the-variants.{Refused}
-use Rattle.call_outcomes.specs.Kind.{Lawful, clear, change, ask}
-use Rattle.call_outcomes.specs.Causes.{argumentCause}
-use Rattle.call_outcomes.specs.PlainCalls.{changeCause}
+use Rattle.call_outcomes.specs.Kind.{Lawful}
 use Rattle.call_outcomes.specs.Clubs.{clubs}
 use Rattle.call_outcomes.specs.ClubsLaws.{clubs-roomy}
 use Rattle.call_history.specs.History.{history, listAtEnd, SameTable, Sent, clearing, lastStore, NoneEnds, facesSent, callsOf}
 use Rattle.call_history.specs.Words.{words-of}
 use Rattle.call_history.specs.Independence.{history-independent}
 use Rattle.call_history.specs.Shares.{sheet-share}
-use Rattle.call_history.specs.Supply.{Suppliable, first-other, none-ended}
-use Rattle.call_history.specs.ClubSupply.{clubs-suppliable}
-use Rattle.call_timed.specs.Timed.{TimedStore, layTimed, TimedLengths, equalTimed, timedView, insertEntry, deleteRank, timedChangeCause, TimedQuestion, findEntry, asPlain, timedQuestionCause, foundAt, timedReply, timed, TimedCall}
+use Rattle.call_timed.specs.Timed.{TimedStore, layTimed, TimedLengths, equalTimed, timedView, timed, TimedCall}
 use Rattle.call_timed.specs.TimedLaws.{timed-right, timed-lawful}
 
 pub clubs-timed : Lawful (timed clubs)
@@ -51,27 +41,3 @@ pub sheet-shares : (calls : List TimedCall) (store : TimedStore) → TimedLength
     → share (equalTimed (layTimed clubs (listAtEnd (timed clubs) calls) s)) (history (timed clubs) calls store)
     ≐ unit (shapeProduct (length (listAtEnd (timed clubs) calls)) s)
 sheet-shares calls store right = sheet-share (timed clubs) clubs-timed calls store (timed-right clubs store right)
-
--- ---- coins can be supplied
-
-cause-not-ended : (call : TimedCall) (list : List ℕ) → argumentCause (timed clubs) call list ≢ some TapeEnded
-unfolding argumentCause timedChangeCause timedQuestionCause changeCause
-cause-not-ended clear list = none-ended
-cause-not-ended (change (insertEntry e)) list =
-    first-other _ EntryZero _ (omega arith) (first-other _ EntryPresent _ (omega arith) (first-other _ Full _ (omega arith) none-ended))
-cause-not-ended (change (deleteRank i)) list = first-other _ Rank _ (omega arith) none-ended
-cause-not-ended (ask (findEntry e)) list = first-other _ EntryZero _ (omega arith) none-ended
-cause-not-ended (ask (asPlain q)) list = clubs-suppliable .no-cause (ask q) list
-
-found-not-ended : (b : Bool) (rank : ℕ) → foundAt b rank ≢ Refused TapeEnded
-unfolding foundAt
-found-not-ended true rank e = let z : _≡_ {A = ℕ} 0 1 = cc in omega arith
-found-not-ended false rank e = let z : _≡_ {A = ℕ} 0 1 = cc in omega arith
-
-reply-not-ended : (q : TimedQuestion) (list : List ℕ) → timedReply q list ≢ Refused TapeEnded
-unfolding timedReply
-reply-not-ended (findEntry e) list = found-not-ended _ _
-reply-not-ended (asPlain q) list = clubs-suppliable .no-reply q list
-
-pub timed-suppliable : Suppliable (timed clubs)
-timed-suppliable = record { few = λ list w. omega (arith, w .plain .room); no-cause = cause-not-ended; no-reply = reply-not-ended }

@@ -15,13 +15,14 @@ pub fn mend(slots: &[u64], counts: &mut [u16], tallies: &mut [u16], balance: &mu
     ensures { λ r. ⌜ timedOutcomeOf r (now (slots .entry)) (now (counts .exit)) (now (tallies .exit)) (now (balance .exit)) []
         ≡ mended (timedView clubs) (timedStore clubs) (timedStoreOf (now (slots .entry)) (now (counts .entry)) (now (tallies .entry)) (now (balance .entry))) ⌝ }
 {
-    if !timed_open::lengths_are_right(slots, counts, tallies, balance) {
+    let cap = sheet_clubs::capacity();
+    if !timed_open::right_lengths(cap, slots.len(), counts.len(), tallies.len(), balance.len()) {
         return Answer::Refused(Cause::Lengths);
     }
     let m = counts[0] as usize;
     let mut work = [0u32; 256];
-    let mut fresh = [0u16; 256];
-    match sheet_mend::recount(slots, m, &mut work, &mut fresh) {
+    let mut fresh = [0u32; 256];
+    match sheet_recount::recount(cap, slots, m, &mut work, &mut fresh) {
         Opened::Sheet { n, m: found } => {
             let size = Size { m: found };
             if !store_keys::entries_rise(slots, size.slots()) {

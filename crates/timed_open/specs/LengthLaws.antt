@@ -1,22 +1,18 @@
--- The lengths of a timed store: those of the plain one, then that of the third slice.
-use mathlib.Core.Path.{_≡_}
+-- The lengths of a timed store, by those of its slices.
+use mathlib.Core.Path.{_≡_, refl}
 use mathlib.Core.List.{List}
-use mathlib.Core.Bool.{true, false}
+use mathlib.Core.Bool.{_&&_}
 use Prim.Native.Nat.{ℕ}
 use lib.Dec.{eqb}
 use lib.ListN.{length}
+use Rattle.store_layout.specs.declared.Capacity.{Capacity}
+use Rattle.call_outcomes.specs.Untallied.{rightLengths}
 use Rattle.call_outcomes.specs.Slice.{lengthsWith}
-use Rattle.call_outcomes.specs.Plain.{plainView, plainStoreOf}
-use Rattle.call_outcomes.specs.Clubs.{clubs}
 use Rattle.call_timed.specs.Timed.{timedView, timedStoreOf}
 
-module _ (slots counts tallies balance : List ℕ) where
-  pub plain-wrong : plainView clubs .rightLengths (plainStoreOf slots counts tallies) ≡ false
-      → false ≡ timedView clubs .rightLengths (timedStoreOf slots counts tallies balance)
-  unfolding lengthsWith
-  plain-wrong h = rw h
-
-  pub balance-decides : plainView clubs .rightLengths (plainStoreOf slots counts tallies) ≡ true
-      → eqb (length balance) 256 ≡ timedView clubs .rightLengths (timedStoreOf slots counts tallies balance)
-  unfolding lengthsWith
-  balance-decides h = rw h
+-- The test of the lengths is that of the view.
+pub lengths-tested : (cap : Capacity) (slots counts tallies balance : List ℕ)
+    → ((eqb (length slots) (cap .slots) && eqb (length counts) (cap .counts) && eqb (length tallies) (cap .counts)) && eqb (length balance) (cap .counts))
+    ≡ timedView cap .rightLengths (timedStoreOf slots counts tallies balance)
+unfolding lengthsWith rightLengths
+lengths-tested cap slots counts tallies balance = refl

@@ -1,6 +1,5 @@
 -- Every draw of the rules is among at least one face and at most so many as the entries bound.
-use mathlib.Core.Logic.{_≢_}
-use Prim.Native.Nat.{ℕ, zero, suc, _+_, _-_, _*_, _<_, _≤_}
+use Prim.Native.Nat.{ℕ, zero, suc, _+_, _-_, _*_, _≤_}
 use native.Mathlib.Omega.{arith}
 use Rattle.base.specs.CaseLaws.{by-eq, by-lt, by-le}
 use Rattle.draw_shares.specs.Program.{Program, Among, Draws}

@@ -2,7 +2,9 @@
 //! the order of the counts and mending of good sheets among them.
 
 use crate::boards::board;
-use crate::{stores, Both, Call, Returned, Store};
+use crate::proved::Linked;
+use crate::{stores, Both, Call, Returned, Store, StoreOf};
+use reference::capacity::{Number, CLUBS};
 use reference::places::{RETIRED, TIED};
 use reference::random::SplitMix64;
 
@@ -12,11 +14,11 @@ pub const BORDER: &[usize] = &[30, 60, 64, 65, 66, 70, 130];
 pub const FULL: &[usize] = &[0, 300, 700, 1024, 1024];
 
 /// A tape: long enough as a rule, at times too short.
-pub fn tape(random: &mut SplitMix64) -> Vec<u32> {
+pub fn tape<T: Number>(random: &mut SplitMix64) -> Vec<u32> {
     let length = match random.below(40) {
         0 => random.below(6),
         1 | 2 => random.below(200),
-        _ => 2048,
+        _ => stores::words_for::<T>(),
     };
     let mut words = vec![0; length];
     random.fill(&mut words);
@@ -71,7 +73,7 @@ pub fn rank(random: &mut SplitMix64, n: usize) -> usize {
 }
 
 /// A call that as a rule brings the number of entries nearer to `target`.
-fn some_call(random: &mut SplitMix64, n: usize, target: usize, bits: Bits) -> Call {
+fn some_call<T: Number>(random: &mut SplitMix64, n: usize, target: usize, bits: Bits) -> Call {
     match random.below(40) {
         0 | 1 => Call::Read {
             first: rank(random, n),
@@ -89,11 +91,11 @@ fn some_call(random: &mut SplitMix64, n: usize, target: usize, bits: Bits) -> Ca
         _ if (n < target) == (random.below(8) != 0) => Call::Insert {
             rank: rank(random, n),
             entry: entry(random, bits),
-            tape: tape(random),
+            tape: tape::<T>(random),
         },
         _ => Call::Delete {
             rank: rank(random, n),
-            tape: tape(random),
+            tape: tape::<T>(random),
         },
     }
 }
@@ -101,7 +103,7 @@ fn some_call(random: &mut SplitMix64, n: usize, target: usize, bits: Bits) -> Ca
 /// The counts go to number order and back. In number order the store is no sheet
 /// where M > 64: some range has another count than its halves together. What the
 /// calls returned.
-fn to_and_fro(both: &mut Both) -> [Returned; 3] {
+fn to_and_fro<T: Linked>(both: &mut Both<StoreOf<T>>) -> [Returned; 3] {
     let sheet = both.store.clone();
     let there = both.call(Call::ToNumberOrder);
     let between = both.call(Call::Check);
@@ -114,17 +116,17 @@ fn to_and_fro(both: &mut Both) -> [Returned; 3] {
 
 /// A boat retires, or is taken back: her entry goes out and comes in again at her
 /// rank with the other bit 62, then her place is asked for. What the calls returned.
-fn retire(both: &mut Both, random: &mut SplitMix64) -> [Returned; 3] {
+fn retire<T: Linked>(both: &mut Both<StoreOf<T>>, random: &mut SplitMix64) -> [Returned; 3] {
     let rank = random.below(both.store.n());
     // Bit 62 alone is no entry without it.
     let entry = (both.store.entries().nth(rank).unwrap() ^ RETIRED).max(1);
-    let scoring = both.store.tallies[1];
-    let out = both.call(Call::Delete { rank, tape: stores::tape(random) });
-    let back = both.call(Call::Insert { rank, entry, tape: stores::tape(random) });
+    let scoring = both.store.tallies[1].value();
+    let out = both.call(Call::Delete { rank, tape: stores::tape_for::<T>(random) });
+    let back = both.call(Call::Insert { rank, entry, tape: stores::tape_for::<T>(random) });
     assert_eq!((out[0], back[0]), (0, 0));
     let place = both.call(Call::Place { rank });
     let retired = entry & RETIRED != 0;
-    assert_eq!(both.store.tallies[1], if retired { scoring - 1 } else { scoring + 1 });
+    assert_eq!(both.store.tallies[1].value(), if retired { scoring - 1 } else { scoring + 1 });
     assert_eq!(place == [0, 0, 0, 1], retired);
     [out, back, place]
 }
@@ -165,13 +167,21 @@ impl Met {
     }
 }
 
-/// A history of so many calls, by way of each of the targets.
+/// A history of so many calls on the clubs' store, by way of the targets.
 pub fn history(seed: u64, calls: u64, targets: &[usize]) -> Met {
+    history_from(Store::unused(), seed, calls, targets)
+}
+
+/// The same from a store of either width, which is cleared first where it is no sheet.
+pub fn history_from<T: Linked>(store: StoreOf<T>, seed: u64, calls: u64, targets: &[usize]) -> Met {
     let mut met = Met::default();
     let mut random = SplitMix64::new(seed);
-    let mut both = Both::new(seed, Store::unused());
-    met.note(both.call(Call::Check));
-    met.note(both.call(Call::Clear));
+    let mut both = Both::new(seed, store);
+    let checked = both.call(Call::Check);
+    met.note(checked);
+    if checked[0] != 0 {
+        met.note(both.call(Call::Clear));
+    }
     let mut target = targets[random.below(targets.len())];
     while both.made() < calls {
         if both.store.n() == target || random.below(3000) == 0 {
@@ -179,11 +189,13 @@ pub fn history(seed: u64, calls: u64, targets: &[usize]) -> Met {
         }
         if random.below(50) == 0 && both.made() + 3 <= calls {
             let retires = both.store.n() > 0 && random.below(2) == 0;
-            let three = if retires { retire(&mut both, &mut random) } else { to_and_fro(&mut both) };
-            three.into_iter().for_each(|returned| met.note(returned));
-            continue;
+            if retires || T::CAPACITY == CLUBS {
+                let three = if retires { retire(&mut both, &mut random) } else { to_and_fro(&mut both) };
+                three.into_iter().for_each(|returned| met.note(returned));
+                continue;
+            }
         }
-        let call = some_call(&mut random, both.store.n(), target, Bits::of_seed(seed));
+        let call = some_call::<T>(&mut random, both.store.n(), target, Bits::of_seed(seed));
         met.note(both.call(call));
     }
     met

@@ -1,5 +1,7 @@
 //! The proved library beside the second implementation: each call is made on
-//! both, and answers, output and stores must be the same.
+//! both, and answers, output and stores must be the same. The clubs' store has counts of
+//! 16 bits, the federation's (document 02, F-14) has them of 32: most of what stands here
+//! serves both.
 
 pub mod boards;
 pub mod histories;
@@ -12,9 +14,10 @@ pub mod stores;
 pub mod timed;
 pub mod timed_histories;
 
+use proved::Linked;
 use reference::calls::{self, Answer};
+use reference::capacity::Number;
 use reference::conversions;
-use reference::layout::{COUNTS, SLOTS, TALLIES};
 use std::fmt::Debug;
 use std::fs;
 use std::io::{self, Write};
@@ -74,34 +77,38 @@ pub enum Call {
     ToNumberOrder,
 }
 
+/// A store, told by the width of its counts.
 #[derive(Clone, PartialEq, Eq)]
-pub struct Store {
+pub struct StoreOf<T> {
     pub slots: Vec<u64>,
-    pub counts: Vec<u16>,
-    pub tallies: Vec<u16>,
+    pub counts: Vec<T>,
+    pub tallies: Vec<T>,
 }
 
-impl Store {
+/// A store of the clubs.
+pub type Store = StoreOf<u16>;
+
+impl<T: Number> StoreOf<T> {
     /// A store of the right lengths that is no sheet.
     pub fn unused() -> Self {
-        Store {
-            slots: vec![7; SLOTS],
-            counts: vec![9; COUNTS],
-            tallies: vec![6; TALLIES],
+        StoreOf {
+            slots: vec![7; T::CAPACITY.slots],
+            counts: vec![T::of(9); T::CAPACITY.counts],
+            tallies: vec![T::of(6); T::CAPACITY.counts],
         }
     }
 
     /// The empty sheet.
     pub fn cleared() -> Self {
-        Store {
-            slots: vec![0; SLOTS],
-            counts: vec![0; COUNTS],
-            tallies: vec![0; TALLIES],
+        StoreOf {
+            slots: vec![0; T::CAPACITY.slots],
+            counts: vec![T::of(0); T::CAPACITY.counts],
+            tallies: vec![T::of(0); T::CAPACITY.counts],
         }
     }
 
     pub fn n(&self) -> usize {
-        self.counts[1] as usize
+        self.counts[1].value()
     }
 
     /// The entries of a sheet, in their order.
@@ -110,11 +117,11 @@ impl Store {
     }
 }
 
-impl Lent for Store {
+impl<T: Linked> Lent for StoreOf<T> {
     type Call = Call;
 
     fn by_reference(&mut self, call: &Call) -> (Returned, Vec<u64>) {
-        let Store { slots, counts, tallies } = self;
+        let StoreOf { slots, counts, tallies } = self;
         let mut out = Vec::new();
         let answer = match call {
             Call::Clear => calls::clear(slots, counts, tallies),
@@ -131,14 +138,14 @@ impl Lent for Store {
             Call::Place { rank } => calls::place(slots, counts, tallies, *rank),
             Call::Check => calls::check(slots, counts, tallies),
             Call::Mend => calls::mend(slots, counts, tallies),
-            Call::ToTreeOrder => conversions::to_tree_order(counts),
-            Call::ToNumberOrder => conversions::to_number_order(counts),
+            Call::ToTreeOrder => conversions::to_tree_order(T::converted(counts)),
+            Call::ToNumberOrder => conversions::to_number_order(T::converted(counts)),
         };
         (returned(answer), out)
     }
 
     fn proved_with(&mut self, call: &Call, room: usize) -> (u64, Vec<u64>, Vec<u64>) {
-        proved::call_with(call, self, room)
+        T::call_with(call, self, room)
     }
 
     fn values(call: &Call) -> usize {

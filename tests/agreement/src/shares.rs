@@ -1,10 +1,11 @@
 //! Exact tables of shares of the proved library's own stores: every course is tried,
 //! by words that decide its faces.
 
-use crate::{timed, Call, Lent, Store};
+use crate::proved::Linked;
+use crate::{timed, Call, Lent, StoreOf};
 use reference::coins::{Source, Undecided};
-use reference::shares::{self, after_step, every_course, table_of, Course, Share, SheetKey, Table};
-use reference::timed_shares::{self, TimedKey};
+use reference::shares::{self, after_step, every_course, table_of, Course, KeyOf, Share, Table};
+use reference::timed_shares;
 
 /// Draws from a course and keeps the words that decide the same faces: a face
 /// is a word below the number of faces; a draw among 1 reads none.
@@ -46,12 +47,12 @@ pub trait Tabled: Lent {
     fn guide(key: &Self::Key, call: Self::Bare, source: &mut Words) -> u8;
 }
 
-impl Tabled for Store {
+impl<T: Linked> Tabled for StoreOf<T> {
     type Bare = shares::Call;
-    type Key = SheetKey;
+    type Key = KeyOf<T>;
 
     fn proved_clear() -> Self {
-        let mut store = Store::unused();
+        let mut store = StoreOf::unused();
         store.by_proved(&Call::Clear);
         store
     }
@@ -68,34 +69,35 @@ impl Tabled for Store {
         }
     }
 
-    fn key(&self) -> SheetKey {
-        let mut copy = shares::Store::cleared();
-        copy.slots.copy_from_slice(&self.slots);
-        copy.counts.copy_from_slice(&self.counts);
-        copy.tallies.copy_from_slice(&self.tallies);
+    fn key(&self) -> KeyOf<T> {
+        let copy = shares::StoreOf {
+            slots: self.slots[..].into(),
+            counts: self.counts[..].into(),
+            tallies: self.tallies[..].into(),
+        };
         copy.sheet()
     }
 
-    fn of_key(key: &SheetKey) -> Self {
+    fn of_key(key: &KeyOf<T>) -> Self {
         let store = key.store();
-        Store {
-            slots: store.slots.to_vec(),
-            counts: store.counts.to_vec(),
-            tallies: store.tallies.to_vec(),
+        StoreOf {
+            slots: store.slots.into_vec(),
+            counts: store.counts.into_vec(),
+            tallies: store.tallies.into_vec(),
         }
     }
 
-    fn guide(key: &SheetKey, call: shares::Call, source: &mut Words) -> u8 {
+    fn guide(key: &KeyOf<T>, call: shares::Call, source: &mut Words) -> u8 {
         key.store().call(call, source)
     }
 }
 
-impl Tabled for timed::Store {
+impl<T: timed::Linked> Tabled for timed::StoreOf<T> {
     type Bare = timed_shares::Call;
-    type Key = TimedKey;
+    type Key = timed_shares::KeyOf<T>;
 
     fn proved_clear() -> Self {
-        let mut store = timed::Store::unused();
+        let mut store = timed::StoreOf::unused();
         store.by_proved(&timed::Call::Clear);
         store
     }
@@ -114,26 +116,27 @@ impl Tabled for timed::Store {
         }
     }
 
-    fn key(&self) -> TimedKey {
-        let mut copy = timed_shares::Store::cleared();
-        copy.plain.slots.copy_from_slice(&self.slots);
-        copy.plain.counts.copy_from_slice(&self.counts);
-        copy.plain.tallies.copy_from_slice(&self.tallies);
-        copy.balance.copy_from_slice(&self.balance);
-        copy.sheet()
+    fn key(&self) -> timed_shares::KeyOf<T> {
+        let plain = shares::StoreOf {
+            slots: self.slots[..].into(),
+            counts: self.counts[..].into(),
+            tallies: self.tallies[..].into(),
+        };
+        let balance = self.balance[..].into();
+        timed_shares::StoreOf { plain, balance }.sheet()
     }
 
-    fn of_key(key: &TimedKey) -> Self {
-        let timed_shares::Store { plain, balance } = key.store();
-        timed::Store {
-            slots: plain.slots.to_vec(),
-            counts: plain.counts.to_vec(),
-            tallies: plain.tallies.to_vec(),
-            balance: balance.to_vec(),
+    fn of_key(key: &timed_shares::KeyOf<T>) -> Self {
+        let timed_shares::StoreOf { plain, balance } = key.store();
+        timed::StoreOf {
+            slots: plain.slots.into_vec(),
+            counts: plain.counts.into_vec(),
+            tallies: plain.tallies.into_vec(),
+            balance: balance.into_vec(),
         }
     }
 
-    fn guide(key: &TimedKey, call: timed_shares::Call, source: &mut Words) -> u8 {
+    fn guide(key: &timed_shares::KeyOf<T>, call: timed_shares::Call, source: &mut Words) -> u8 {
         key.store().call(call, source)
     }
 }

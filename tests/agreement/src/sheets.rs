@@ -1,18 +1,22 @@
 //! A plain and a timed sheet of one list, for calls that answer the same on both.
 
-use crate::{timed, Both, Call, Returned};
+use crate::proved::Linked;
+use crate::{timed, Both, Call, Returned, StoreOf};
 use reference::random::SplitMix64;
 
 /// A plain and a timed sheet of one list, the same slots, counts and tallies.
-pub struct Sheets {
-    plain: Both,
-    timed: Both<timed::Store>,
+pub struct SheetsOf<T: Linked + timed::Linked> {
+    plain: Both<StoreOf<T>>,
+    timed: Both<timed::StoreOf<T>>,
 }
 
-impl Sheets {
+/// Those of the clubs.
+pub type Sheets = SheetsOf<u16>;
+
+impl<T: Linked + timed::Linked> SheetsOf<T> {
     pub fn new(seed: u64, list: &[u64], m: usize, random: &mut SplitMix64) -> Self {
-        let timed = timed::Store::of_size(list, m, random);
-        Sheets {
+        let timed = timed::StoreOf::of_size(list, m, random);
+        SheetsOf {
             plain: Both::new(seed, timed.plain()),
             timed: Both::new(seed, timed),
         }

@@ -1,19 +1,36 @@
 //! Stores and tapes that several tests begin with.
 
 use crate::histories::{with_bits, Bits};
-use crate::Store;
+use crate::{Store, StoreOf};
+use reference::capacity::Number;
 use reference::conversions::to_number_order;
-use reference::layout::{Node, Shape, COUNTS, SIZE, SLOTS, TALLIES};
+use reference::layout::{Node, Shape, SIZE, TALLIES};
 use reference::places::{RETIRED, TIED};
 use reference::random::SplitMix64;
 use std::collections::BTreeSet;
 use std::ops::Range;
 
-/// A tape that suffices for any call.
-pub fn tape(random: &mut SplitMix64) -> Vec<u32> {
-    let mut words = vec![0; 2048];
+/// So many words suffice for any call on a store of this width: there are fewer ranges
+/// than counts.
+pub const fn words_for<T: Number>() -> usize {
+    let counts = T::CAPACITY.counts;
+    if counts < 2048 {
+        2048
+    } else {
+        counts
+    }
+}
+
+/// A tape that suffices for any call on a store of this width.
+pub fn tape_for<T: Number>(random: &mut SplitMix64) -> Vec<u32> {
+    let mut words = vec![0; words_for::<T>()];
     random.fill(&mut words);
     words
+}
+
+/// The same for the clubs' store.
+pub fn tape(random: &mut SplitMix64) -> Vec<u32> {
+    tape_for::<u16>(random)
 }
 
 /// A list of n entries whose keys rise, all of them even and from 8 on, with bits 63
@@ -26,37 +43,51 @@ pub fn rising(n: usize, bits: Bits, random: &mut SplitMix64) -> Vec<u64> {
     keys.into_iter().map(|key| with_bits(random, key, bits)).collect()
 }
 
-/// The sheet of a list, a size and random balance entries.
+impl<T: Number> StoreOf<T> {
+    /// The sheet of a list, a size and random balance entries.
+    pub fn of_size(list: &[u64], m: usize, random: &mut SplitMix64) -> Self {
+        Self::by(list, m, |_, c| random.below(c))
+    }
+
+    /// The same with given balance entries: `chosen` is given a range and the number of its
+    /// candidates, and tells which candidate, from 0.
+    pub fn by(list: &[u64], m: usize, mut chosen: impl FnMut(Node, usize) -> usize) -> Self {
+        Self::split_by(list, m, |node, candidates| candidates.start + chosen(node, candidates.len()))
+    }
+
+    /// The same with any balance entries, which may be no candidates: `position` is given a
+    /// range and the positions of its candidates among its entries, and tells that of the
+    /// balance entry.
+    pub fn split_by(list: &[u64], m: usize, mut position: impl FnMut(Node, Range<usize>) -> usize) -> Self {
+        let shape = Shape::of(m);
+        let StoreOf { mut slots, mut counts, .. } = Self::cleared();
+        counts[SIZE] = T::of(m);
+        shape.set_count(&mut counts, Node::ROOT, list.len());
+        for node in (0..shape.height).flat_map(Node::all_at) {
+            let n = shape.count(&counts, node);
+            let balance = position(node, shape.candidate_positions(node.depth, n));
+            shape.set_count(&mut counts, node.left(), balance);
+            shape.set_count(&mut counts, node.right(), n - balance);
+        }
+        shape.lay_out(Node::ROOT, &mut slots, &counts, list);
+        let tallies = shape.tallies(&slots);
+        StoreOf { slots, counts, tallies }
+    }
+}
+
+/// The clubs' sheet of a list, a size and random balance entries.
 pub fn sheet_of_size(list: &[u64], m: usize, random: &mut SplitMix64) -> Store {
-    sheet_by(list, m, |_, c| random.below(c))
+    Store::of_size(list, m, random)
 }
 
-/// The same with given balance entries: `chosen` is given a range and the number of its
-/// candidates, and tells which candidate, from 0.
-pub fn sheet_by(list: &[u64], m: usize, mut chosen: impl FnMut(Node, usize) -> usize) -> Store {
-    split_by(list, m, |node, candidates| candidates.start + chosen(node, candidates.len()))
+/// The same with given balance entries.
+pub fn sheet_by(list: &[u64], m: usize, chosen: impl FnMut(Node, usize) -> usize) -> Store {
+    Store::by(list, m, chosen)
 }
 
-/// The same with any balance entries, which may be no candidates: `position` is given a
-/// range and the positions of its candidates among its entries, and tells that of the
-/// balance entry.
-pub fn split_by(list: &[u64], m: usize, mut position: impl FnMut(Node, Range<usize>) -> usize) -> Store {
-    let shape = Shape::of(m);
-    let (mut slots, mut counts) = ([0; SLOTS], [0; COUNTS]);
-    counts[SIZE] = m as u16;
-    shape.set_count(&mut counts, Node::ROOT, list.len());
-    for node in (0..shape.height).flat_map(Node::all_at) {
-        let n = shape.count(&counts, node);
-        let balance = position(node, shape.candidate_positions(node.depth, n));
-        shape.set_count(&mut counts, node.left(), balance);
-        shape.set_count(&mut counts, node.right(), n - balance);
-    }
-    shape.lay_out(Node::ROOT, &mut slots, &counts, list);
-    Store {
-        slots: slots.to_vec(),
-        counts: counts.to_vec(),
-        tallies: shape.tallies(&slots).to_vec(),
-    }
+/// The same with any balance entries, which may be no candidates.
+pub fn split_by(list: &[u64], m: usize, position: impl FnMut(Node, Range<usize>) -> usize) -> Store {
+    Store::split_by(list, m, position)
 }
 
 /// Slices that are no tallies of this sheet, each with the rule that it follows. Some

@@ -3,14 +3,15 @@
 
 use crate::boards::board;
 use crate::histories::{rank, tape, with_bits, Bits, Met};
-use crate::timed::{Call, Store};
+use crate::timed::{Call, Linked, Store, StoreOf};
 use crate::{stores, Both, Returned};
+use reference::capacity::Number;
 use reference::places::RETIRED;
 use reference::random::SplitMix64;
 
 /// An entry: at times zero or the highest but for bits 63 and 62; often one that is
 /// there or stands beside one that is, or a finish of a few times and sail numbers.
-fn entry(random: &mut SplitMix64, store: &Store, bits: Bits) -> u64 {
+fn entry<T: Number>(random: &mut SplitMix64, store: &StoreOf<T>, bits: Bits) -> u64 {
     let entry = match random.below(60) {
         0 => 0,
         1 => u64::MAX,
@@ -25,7 +26,7 @@ fn entry(random: &mut SplitMix64, store: &Store, bits: Bits) -> u64 {
 }
 
 /// A call that as a rule brings the number of entries nearer to `target`.
-fn some_call(random: &mut SplitMix64, store: &Store, target: usize, bits: Bits) -> Call {
+fn some_call<T: Number>(random: &mut SplitMix64, store: &StoreOf<T>, target: usize, bits: Bits) -> Call {
     let n = store.n();
     match random.below(40) {
         0 | 1 => Call::Read {
@@ -44,23 +45,23 @@ fn some_call(random: &mut SplitMix64, store: &Store, target: usize, bits: Bits) 
         13 => Call::Mend,
         _ if (n < target) == (random.below(8) != 0) => Call::Insert {
             entry: entry(random, store, bits),
-            tape: tape(random),
+            tape: tape::<T>(random),
         },
         _ => Call::Delete {
             rank: rank(random, n),
-            tape: tape(random),
+            tape: tape::<T>(random),
         },
     }
 }
 
 /// A boat retires, or is taken back: her entry goes out and comes in again with the
 /// other bit 62, then her place is asked for. What the calls returned.
-fn retire(both: &mut Both<Store>, random: &mut SplitMix64) -> [Returned; 3] {
+fn retire<T: Linked>(both: &mut Both<StoreOf<T>>, random: &mut SplitMix64) -> [Returned; 3] {
     let rank = random.below(both.store.n());
     let entry = both.store.entries().nth(rank).unwrap() ^ RETIRED;
     let calls = [
-        Call::Delete { rank, tape: stores::tape(random) },
-        Call::Insert { entry, tape: stores::tape(random) },
+        Call::Delete { rank, tape: stores::tape_for::<T>(random) },
+        Call::Insert { entry, tape: stores::tape_for::<T>(random) },
         Call::Place { rank },
     ];
     let returned = calls.map(|call| both.call(call));
@@ -69,13 +70,22 @@ fn retire(both: &mut Both<Store>, random: &mut SplitMix64) -> [Returned; 3] {
     returned
 }
 
-/// A timed history of so many calls, by way of each of the targets.
+/// A timed history of so many calls on the clubs' store, by way of the targets.
 pub fn history(seed: u64, calls: u64, targets: &[usize]) -> Met {
+    history_from(Store::unused(), seed, calls, targets)
+}
+
+/// The same from a store of either width, which is cleared first where it is no timed
+/// sheet.
+pub fn history_from<T: Linked>(store: StoreOf<T>, seed: u64, calls: u64, targets: &[usize]) -> Met {
     let mut met = Met::default();
     let mut random = SplitMix64::new(seed);
-    let mut both = Both::new(seed, Store::unused());
-    met.note(both.call(Call::Check));
-    met.note(both.call(Call::Clear));
+    let mut both = Both::new(seed, store);
+    let checked = both.call(Call::Check);
+    met.note(checked);
+    if checked[0] != 0 {
+        met.note(both.call(Call::Clear));
+    }
     let mut target = targets[random.below(targets.len())];
     while both.made() < calls {
         if both.store.n() == target || random.below(3000) == 0 {

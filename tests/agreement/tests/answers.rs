@@ -1,9 +1,10 @@
 //! Answer slices of every length: too short for a call's values, as long, and
-//! longer; on sheets and on stores that a call refuses.
+//! longer; on sheets and on stores that a call refuses, of the clubs and of the federation.
 
 use agreement::histories::Bits;
-use agreement::stores::{rising, sheet_of_size};
-use agreement::{timed, Call, Lent, Store, UNWRITTEN};
+use agreement::proved::Linked;
+use agreement::stores::rising;
+use agreement::{timed, Call, Lent, StoreOf, UNWRITTEN};
 use reference::places::RETIRED;
 use reference::random::SplitMix64;
 
@@ -65,27 +66,35 @@ fn calls(retired: usize) -> Vec<Call> {
         Call::Place { rank: retired },
         Call::Place { rank: 99 },
         Call::Place { rank: 100 },
-        Call::ToTreeOrder,
-        Call::ToNumberOrder,
     ]
+}
+
+/// These calls and those above, on a sheet of a store of this width and on stores that are refused.
+fn plain_sheets<T: Linked>(further: &[Call]) {
+    let mut random = SplitMix64::new(7000);
+    let list = rising(100, Bits::new(14, 4), &mut random);
+    let mut stores = vec![StoreOf::<T>::of_size(&list, 150, &mut random); 6];
+    stores[1].counts.pop();
+    stores[2].counts[255] = T::of(1);
+    stores[3].counts[0] = T::of(2 * T::CAPACITY.entries);
+    stores[4].tallies.pop();
+    stores[5].tallies[255] = T::of(1);
+    stores.push(StoreOf::unused());
+    for before in stores {
+        for call in calls(retired(&list)).iter().chain(further) {
+            with_every_room(&before, call);
+        }
+    }
 }
 
 #[test]
 fn plain_sheets_and_conversions() {
-    let mut random = SplitMix64::new(7000);
-    let list = rising(100, Bits::new(14, 4), &mut random);
-    let mut stores = vec![sheet_of_size(&list, 150, &mut random); 6];
-    stores[1].counts.pop();
-    stores[2].counts[255] = 1;
-    stores[3].counts[0] = 2048;
-    stores[4].tallies.pop();
-    stores[5].tallies[255] = 1;
-    stores.push(Store::unused());
-    for before in stores {
-        for call in calls(retired(&list)) {
-            with_every_room(&before, &call);
-        }
-    }
+    plain_sheets::<u16>(&[Call::ToTreeOrder, Call::ToNumberOrder]);
+}
+
+#[test]
+fn federation_sheets() {
+    plain_sheets::<u32>(&[]);
 }
 
 /// Calls on a timed sheet of 100 entries, one of which is this, accepted and refused; a
@@ -118,20 +127,30 @@ fn timed_calls(there: u64, retired: usize) -> Vec<timed::Call> {
     ]
 }
 
-#[test]
-fn timed_sheets() {
+/// Those calls on a timed sheet of a store of this width and on stores that are refused.
+fn timed_sheets_of<T: timed::Linked>() {
     let mut random = SplitMix64::new(7001);
     let list = rising(100, Bits::new(14, 4), &mut random);
-    let mut stores = vec![timed::Store::of_size(&list, 150, &mut random); 6];
+    let mut stores = vec![timed::StoreOf::<T>::of_size(&list, 150, &mut random); 6];
     stores[1].balance.pop();
-    stores[2].counts[255] = 1;
+    stores[2].counts[255] = T::of(1);
     stores[3].balance[255] = 1;
     stores[4].tallies.pop();
-    stores[5].tallies[255] = 1;
-    stores.push(timed::Store::unused());
+    stores[5].tallies[255] = T::of(1);
+    stores.push(timed::StoreOf::unused());
     for before in stores {
         for call in timed_calls(list[50], retired(&list)) {
             with_every_room(&before, &call);
         }
     }
+}
+
+#[test]
+fn timed_sheets() {
+    timed_sheets_of::<u16>();
+}
+
+#[test]
+fn federation_timed_sheets() {
+    timed_sheets_of::<u32>();
 }

@@ -1,18 +1,21 @@
-//! The eight calls on lent slices (01, "Causes and numbers"; 02, F-3, F-9, F-11, F-13).
+//! The eight calls on lent slices (01, "Causes and numbers"; 02, F-3, F-9, F-11, F-13,
+//! F-14). The width of the counts and tallies tells whether the store is the clubs' or
+//! the federation's.
 
 use crate::board::board_of;
+use crate::capacity::Number;
 use crate::coins::{Source, Tape};
-use crate::layout::{sheet_in, Counts, Node, Shape, Sheet, Slots, Tallies, ROOT};
+use crate::layout::{sheet_in, Node, Shape, Sheet, ROOT};
 use crate::mend::Mended;
 use crate::places::{standing, Standing};
 use crate::rules::{plan, Change, Plan};
-use crate::sizes::MAX_ENTRIES;
 
 /// Why a call or a line was refused. The first cause in this order decides.
 #[derive(Clone, Copy, Debug, PartialEq, Eq)]
 pub enum Cause {
     /// Slots not 4,224, counts not 256 or tallies not 256; of a timed sheet also
-    /// a third slice not of 256.
+    /// a third slice not of 256. 02, F-14: "Causes 1 and 5 read the larger numbers on
+    /// such a store", 208,896 slots and 8,192 of the others.
     Lengths = 1,
     /// Not a sheet by the rules, wrong tallies among them.
     NotASheet = 2,
@@ -32,7 +35,7 @@ pub enum Cause {
     Board = 16,
     /// Rank > N (insert), ≥ N (others), or first > last.
     Rank = 4,
-    /// Insert with N = 1,024.
+    /// Insert with N = 1,024; into the federation's sheet with N = 65,536.
     Full = 5,
     /// Output shorter than last − first + 1, or than the ranks of a board are many.
     Output = 6,
@@ -108,23 +111,22 @@ impl From<Result<Answer, Cause>> for Answer {
 }
 
 /// "Clear can meet only 1, and makes any contents the empty sheet."
-pub fn clear(slots: &mut [u64], counts: &mut [u16], tallies: &mut [u16]) -> Answer {
-    match lent_mut(slots, counts, tallies) {
-        Ok((slots, counts, tallies)) => {
+pub fn clear<T: Number>(slots: &mut [u64], counts: &mut [T], tallies: &mut [T]) -> Answer {
+    lengths(slots, counts, tallies)
+        .map(|()| {
             slots.fill(0);
-            counts.fill(0);
-            tallies.fill(0);
+            counts.fill(T::default());
+            tallies.fill(T::default());
             Answer::Cleared
-        }
-        Err(cause) => Answer::Refused(cause),
-    }
+        })
+        .into()
 }
 
 /// Inserts an entry at a rank, with coins from the start of `tape`.
-pub fn insert(
+pub fn insert<T: Number>(
     slots: &mut [u64],
-    counts: &mut [u16],
-    tallies: &mut [u16],
+    counts: &mut [T],
+    tallies: &mut [T],
     rank: usize,
     entry: u64,
     tape: &[u32],
@@ -135,10 +137,10 @@ pub fn insert(
 }
 
 /// Deletes the entry at a rank, with coins from the start of `tape`.
-pub fn delete(
+pub fn delete<T: Number>(
     slots: &mut [u64],
-    counts: &mut [u16],
-    tallies: &mut [u16],
+    counts: &mut [T],
+    tallies: &mut [T],
     rank: usize,
     tape: &[u32],
 ) -> Answer {
@@ -158,35 +160,24 @@ pub(crate) fn changed(result: Result<usize, Cause>, tape: &Tape) -> Answer {
 }
 
 /// Reads ranks `first` to `last` inclusive into the front of `output`.
-pub fn read(
+pub fn read<T: Number>(
     slots: &[u64],
-    counts: &[u16],
-    tallies: &[u16],
+    counts: &[T],
+    tallies: &[T],
     first: usize,
     last: usize,
     output: &mut [u64],
 ) -> Answer {
-    read_entries(slots, counts, tallies, first, last, output).into()
-}
-
-fn read_entries(
-    slots: &[u64],
-    counts: &[u16],
-    tallies: &[u16],
-    first: usize,
-    last: usize,
-    output: &mut [u64],
-) -> Result<Answer, Cause> {
-    let (slots, counts, tallies) = lent(slots, counts, tallies)?;
-    let sheet = checked(slots, counts, tallies)?;
-    read_sheet(&sheet, slots, counts, first, last, output)
+    opened(slots, counts, tallies)
+        .and_then(|sheet| read_sheet(&sheet, slots, counts, first, last, output))
+        .into()
 }
 
 /// A read of a sheet.
-pub(crate) fn read_sheet(
+pub(crate) fn read_sheet<T: Number>(
     sheet: &Sheet,
-    slots: &Slots,
-    counts: &Counts,
+    slots: &[u64],
+    counts: &[T],
     first: usize,
     last: usize,
     output: &mut [u64],
@@ -204,43 +195,31 @@ pub(crate) fn read_sheet(
 }
 
 /// The notice board: reads `ranks` into the front of `output` (02, F-9).
-pub fn board(
+pub fn board<T: Number>(
     slots: &[u64],
-    counts: &[u16],
-    tallies: &[u16],
+    counts: &[T],
+    tallies: &[T],
     ranks: &[u64],
     output: &mut [u64],
 ) -> Answer {
-    lent(slots, counts, tallies)
-        .and_then(|(slots, counts, tallies)| {
-            let sheet = checked(slots, counts, tallies)?;
-            board_of(&list(&sheet, slots, counts), ranks, output)
-        })
+    opened(slots, counts, tallies)
+        .and_then(|sheet| board_of(&list(&sheet, slots, counts), ranks, output))
         .into()
 }
 
 /// Place of a rank, by its tied group (02, F-3, F-11).
-pub fn place(slots: &[u64], counts: &[u16], tallies: &[u16], rank: usize) -> Answer {
-    place_of_rank(slots, counts, tallies, rank).into()
-}
-
-fn place_of_rank(
-    slots: &[u64],
-    counts: &[u16],
-    tallies: &[u16],
-    rank: usize,
-) -> Result<Answer, Cause> {
-    let (slots, counts, tallies) = lent(slots, counts, tallies)?;
-    let sheet = checked(slots, counts, tallies)?;
-    place_on_sheet(&sheet, slots, counts, tallies, rank)
+pub fn place<T: Number>(slots: &[u64], counts: &[T], tallies: &[T], rank: usize) -> Answer {
+    opened(slots, counts, tallies)
+        .and_then(|sheet| place_on_sheet(&sheet, slots, counts, tallies, rank))
+        .into()
 }
 
 /// The place of a rank of a sheet.
-pub(crate) fn place_on_sheet(
+pub(crate) fn place_on_sheet<T: Number>(
     sheet: &Sheet,
-    slots: &Slots,
-    counts: &Counts,
-    tallies: &Tallies,
+    slots: &[u64],
+    counts: &[T],
+    tallies: &[T],
     rank: usize,
 ) -> Result<Answer, Cause> {
     if rank >= sheet.n {
@@ -256,33 +235,31 @@ pub(crate) fn place_on_sheet(
 }
 
 /// Whether the store is a sheet, and its length.
-pub fn check(slots: &[u64], counts: &[u16], tallies: &[u16]) -> Answer {
-    lent(slots, counts, tallies)
-        .and_then(|(slots, counts, tallies)| checked(slots, counts, tallies))
+pub fn check<T: Number>(slots: &[u64], counts: &[T], tallies: &[T]) -> Answer {
+    opened(slots, counts, tallies)
         .map(|sheet| Answer::Checked { n: sheet.n })
         .into()
 }
 
 /// Puts in the counts and the tallies of the sheet that has these slots and this M
 /// (02, F-13).
-pub fn mend(slots: &[u64], counts: &mut [u16], tallies: &mut [u16]) -> Answer {
-    lent(slots, counts, tallies)
-        .and_then(|(slots, counts, _)| Mended::of(slots, counts))
+pub fn mend<T: Number>(slots: &[u64], counts: &mut [T], tallies: &mut [T]) -> Answer {
+    lengths(slots, counts, tallies)
+        .and_then(|()| Mended::of(slots, counts))
         .map(|mended| mended.put_in(counts, tallies))
         .into()
 }
 
 /// Insert with coins from any source: the new N, or the cause of a refusal.
-pub fn insert_from<S: Source>(
+pub fn insert_from<T: Number, S: Source>(
     slots: &mut [u64],
-    counts: &mut [u16],
-    tallies: &mut [u16],
+    counts: &mut [T],
+    tallies: &mut [T],
     rank: usize,
     entry: u64,
     source: &mut S,
 ) -> Result<usize, Cause> {
-    let (slots, counts, tallies) = lent_mut(slots, counts, tallies)?;
-    let sheet = checked(slots, counts, tallies)?;
+    let sheet = opened(slots, counts, tallies)?;
     if entry == 0 {
         return Err(Cause::EntryZero);
     }
@@ -290,9 +267,9 @@ pub fn insert_from<S: Source>(
 }
 
 /// An insert of an entry that may stand on this sheet.
-pub(crate) fn insert_into<S: Source>(
+pub(crate) fn insert_into<T: Number, S: Source>(
     sheet: &Sheet,
-    (slots, counts, tallies): LentMut,
+    lent: LentMut<T>,
     rank: usize,
     entry: u64,
     source: &mut S,
@@ -300,111 +277,105 @@ pub(crate) fn insert_into<S: Source>(
     if rank > sheet.n {
         return Err(Cause::Rank);
     }
-    if sheet.n == MAX_ENTRIES {
+    if sheet.n == T::CAPACITY.entries {
         return Err(Cause::Full);
     }
-    let plan =
-        plan(&sheet.shape, counts, Change::Insert { rank }, source).map_err(|_| Cause::TapeEnds)?;
-    carry_out(&sheet.shape, &plan, entry, (slots, counts, tallies));
-    Ok(plan.n())
+    change(sheet, lent, Change::Insert { rank }, entry, source)
 }
 
 /// Delete with coins from any source: the new N, or the cause of a refusal.
-pub fn delete_from<S: Source>(
+pub fn delete_from<T: Number, S: Source>(
     slots: &mut [u64],
-    counts: &mut [u16],
-    tallies: &mut [u16],
+    counts: &mut [T],
+    tallies: &mut [T],
     rank: usize,
     source: &mut S,
 ) -> Result<usize, Cause> {
-    let (slots, counts, tallies) = lent_mut(slots, counts, tallies)?;
-    let sheet = checked(slots, counts, tallies)?;
+    let sheet = opened(slots, counts, tallies)?;
     delete_out_of(&sheet, (slots, counts, tallies), rank, source)
 }
 
 /// A delete on a sheet.
-pub(crate) fn delete_out_of<S: Source>(
+pub(crate) fn delete_out_of<T: Number, S: Source>(
     sheet: &Sheet,
-    (slots, counts, tallies): LentMut,
+    lent: LentMut<T>,
     rank: usize,
     source: &mut S,
 ) -> Result<usize, Cause> {
     if rank >= sheet.n {
         return Err(Cause::Rank);
     }
-    let plan =
-        plan(&sheet.shape, counts, Change::Delete { rank }, source).map_err(|_| Cause::TapeEnds)?;
-    carry_out(&sheet.shape, &plan, 0, (slots, counts, tallies));
+    change(sheet, lent, Change::Delete { rank }, 0, source)
+}
+
+/// A change that the sheet takes: the new N, or cause 7. `entry` is the one that an
+/// insert brings.
+fn change<T: Number, S: Source>(
+    sheet: &Sheet,
+    lent: LentMut<T>,
+    change: Change,
+    entry: u64,
+    source: &mut S,
+) -> Result<usize, Cause> {
+    let plan = plan(&sheet.shape, lent.1, change, source).map_err(|_| Cause::TapeEnds)?;
+    carry_out(&sheet.shape, &plan, entry, lent);
     Ok(plan.n())
 }
 
 /// Writes a plan into the store: the range it names is taken up, changed, and
-/// laid out anew. `entry` is the one an insert brings. The tallies follow.
-fn carry_out(old: &Shape, plan: &Plan, entry: u64, (slots, counts, tallies): LentMut) {
-    let mut list = [0; MAX_ENTRIES];
+/// laid out anew. The tallies follow.
+fn carry_out<T: Number>(
+    old: &Shape,
+    plan: &Plan<T>,
+    entry: u64,
+    (slots, counts, tallies): LentMut<T>,
+) {
     let node = plan.node;
-    let n = old.count(counts, node);
-    old.gather(node, slots, counts, &mut list[..n]);
-    let rank = plan.change.rank();
+    let mut list = old.gather(node, slots, counts);
     match plan.change {
-        Change::Insert { .. } => {
-            list.copy_within(rank..n, rank + 1);
-            list[rank] = entry;
+        Change::Insert { rank } => list.insert(rank, entry),
+        Change::Delete { rank } => {
+            list.remove(rank);
         }
-        Change::Delete { .. } => list.copy_within(rank + 1..n, rank),
     }
     slots[old.slots_under(node)].fill(0);
-    *counts = plan.counts;
+    counts.copy_from_slice(&plan.counts);
     let new = if plan.m() == old.m {
         *old
     } else {
         Shape::of(plan.m())
     };
-    let n = new.count(counts, node);
-    new.lay_out(node, slots, counts, &list[..n]);
-    *tallies = new.tallies(slots);
+    new.lay_out(node, slots, counts, &list);
+    tallies.copy_from_slice(&new.tallies(slots));
 }
 
 /// The lent slices at their right lengths.
-pub(crate) type Lent<'a> = (&'a Slots, &'a Counts, &'a Tallies);
-pub(crate) type LentMut<'a> = (&'a mut Slots, &'a mut Counts, &'a mut Tallies);
+pub(crate) type LentMut<'a, T> = (&'a mut [u64], &'a mut [T], &'a mut [T]);
 
-/// The slices, or cause 1. 02, F-11: "a wrong length cause 1".
-pub(crate) fn lent<'a>(
-    slots: &'a [u64],
-    counts: &'a [u16],
-    tallies: &'a [u16],
-) -> Result<Lent<'a>, Cause> {
-    match (slots.try_into(), counts.try_into(), tallies.try_into()) {
-        (Ok(slots), Ok(counts), Ok(tallies)) => Ok((slots, counts, tallies)),
-        _ => Err(Cause::Lengths),
-    }
+/// Cause 1, unless the slices have the lengths of the store that the width of the
+/// counts tells. 02, F-11: "a wrong length cause 1".
+pub(crate) fn lengths<T: Number>(slots: &[u64], counts: &[T], tallies: &[T]) -> Result<(), Cause> {
+    let numbers = [counts.len(), tallies.len()];
+    let right = slots.len() == T::CAPACITY.slots && numbers == [T::CAPACITY.counts; 2];
+    right.then_some(()).ok_or(Cause::Lengths)
 }
 
-pub(crate) fn lent_mut<'a>(
-    slots: &'a mut [u64],
-    counts: &'a mut [u16],
-    tallies: &'a mut [u16],
-) -> Result<LentMut<'a>, Cause> {
-    match (slots.try_into(), counts.try_into(), tallies.try_into()) {
-        (Ok(slots), Ok(counts), Ok(tallies)) => Ok((slots, counts, tallies)),
-        _ => Err(Cause::Lengths),
-    }
-}
-
-/// The sheet in the store, or cause 2.
-pub(crate) fn checked(slots: &Slots, counts: &Counts, tallies: &Tallies) -> Result<Sheet, Cause> {
+/// The sheet in the store, or cause 1 or 2.
+pub(crate) fn opened<T: Number>(
+    slots: &[u64],
+    counts: &[T],
+    tallies: &[T],
+) -> Result<Sheet, Cause> {
+    lengths(slots, counts, tallies)?;
     sheet_in(slots, counts, tallies).ok_or(Cause::NotASheet)
 }
 
 /// The entries of a sheet in their order.
-pub(crate) fn list(sheet: &Sheet, slots: &Slots, counts: &Counts) -> Vec<u64> {
-    let mut list = vec![0; sheet.n];
-    sheet.shape.gather(Node::ROOT, slots, counts, &mut list);
-    list
+pub(crate) fn list<T: Number>(sheet: &Sheet, slots: &[u64], counts: &[T]) -> Vec<u64> {
+    sheet.shape.gather(Node::ROOT, slots, counts)
 }
 
 /// The length that the counts of a sheet tell: the root stands at 1 in any tree.
-pub(crate) fn length(counts: &[u16]) -> usize {
-    counts.get(ROOT).copied().map_or(0, usize::from)
+pub(crate) fn length<T: Number>(counts: &[T]) -> usize {
+    counts.get(ROOT).map_or(0, |&count| count.value())
 }

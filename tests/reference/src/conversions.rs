@@ -1,8 +1,9 @@
 //! The two conversions of counts between number order, in which range k has
 //! count k, and tree order, that of [`order`](crate::order) (02, F-5).
 //!
-//! They take any contents with an M that a sheet can have. "Converting the old
-//! order to the new and back loses nothing."
+//! They take any contents with an M that a sheet of the clubs can have; 02, F-14, names
+//! them among the calls that take no other store. "Converting the old order to the new
+//! and back loses nothing."
 
 use crate::calls::{Answer, Cause};
 use crate::layout::{Counts, ROOT, SIZE};

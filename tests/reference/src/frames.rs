@@ -1,4 +1,5 @@
-//! The lines of the program (01, "Frames"; 02, F-3, F-11).
+//! The lines of the program (01, "Frames"; 02, F-3, F-11). 02, F-14: "The program and the
+//! C display keep 1,024", so that the store here is the clubs'.
 
 use crate::calls::{self, Answer, Cause};
 use crate::layout::{Counts, Node, Shape, Slots, Tallies, COUNTS, SIZE, SLOTS, TALLIES};
@@ -264,7 +265,6 @@ fn put_sheet(out: &mut Vec<u8>, n: usize, slots: &[u64], counts: &[u16]) {
         return;
     }
     let shape = Shape::of(m);
-    let counts: &Counts = counts.try_into().expect("a sheet has 256 counts");
     let leaves = Node::all_at(shape.height).zip(slots.chunks_exact(shape.leaf_slots));
     for (leaf, (node, leaf_slots)) in leaves.enumerate() {
         put(out, 0x91, 1);

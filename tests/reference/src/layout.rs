@@ -1,18 +1,18 @@
 //! The store: where entries, counts and tallies stand, and whether a store is a
 //! sheet.
 
-use crate::order::{self, Places};
+use crate::capacity::{Number, CLUBS, FEDERATION};
+use crate::order;
 use crate::places::scores;
-use crate::sizes::{candidate_positions, Size, Spread, MAX_ENTRIES};
+use crate::sizes::{candidate_positions, Size, Spread};
 use std::ops::{BitOr, Range};
 
-/// 01: "The store is two lent slices: 4,224 slots of 64 bits and 256 counts of
-/// 16 bits."
-pub const SLOTS: usize = 4224;
-pub const COUNTS: usize = 256;
-/// 02, F-11: "a further slice of 256 16-bit numbers".
-pub const TALLIES: usize = 256;
+/// The lengths of the clubs' slices.
+pub const SLOTS: usize = CLUBS.slots;
+pub const COUNTS: usize = CLUBS.counts;
+pub const TALLIES: usize = CLUBS.counts;
 
+/// The clubs' slices.
 pub type Slots = [u64; SLOTS];
 pub type Counts = [u16; COUNTS];
 pub type Tallies = [u16; TALLIES];
@@ -23,8 +23,8 @@ pub type Tallies = [u16; TALLIES];
 pub const SIZE: usize = 0;
 pub const ROOT: usize = 1;
 
-/// The height of the largest sheet.
-pub const MAX_HEIGHT: usize = 7;
+/// The height of the clubs' largest sheets.
+pub const MAX_HEIGHT: usize = CLUBS.height();
 
 /// A range of the tree: its number and its depth. 01: "range k has left half 2k
 /// and right half 2k+1."
@@ -66,12 +66,13 @@ pub struct Shape {
     pub m: usize,
     pub height: usize,
     pub leaf_slots: usize,
-    candidates: [usize; MAX_HEIGHT],
-    places: &'static Places,
+    candidates: [usize; FEDERATION.height()],
+    places: &'static [u16],
 }
 
 impl Shape {
-    /// The shape for an M of at most 2 × 1,024 − 1.
+    /// The shape for an M of at most 131,071, which is the same in every store that has
+    /// room for it.
     pub fn of(m: usize) -> Shape {
         let size = Size::new(m);
         Shape {
@@ -93,38 +94,42 @@ impl Shape {
     }
 
     /// The count of a range, which stands at the range's place in the tree.
-    pub fn count(&self, counts: &Counts, node: Node) -> usize {
-        usize::from(counts[usize::from(self.places[node.number])])
+    pub fn count<T: Number>(&self, counts: &[T], node: Node) -> usize {
+        counts[self.place(node)].value()
     }
 
-    pub fn set_count(&self, counts: &mut Counts, node: Node, n: usize) {
-        counts[usize::from(self.places[node.number])] = n as u16;
+    pub fn set_count<T: Number>(&self, counts: &mut [T], node: Node, n: usize) {
+        counts[self.place(node)] = T::of(n);
     }
 
     /// The tally of a range, which stands where its count does. 02, F-11: "in the
     /// order of the counts".
-    pub fn tally(&self, tallies: &Tallies, node: Node) -> usize {
-        usize::from(tallies[usize::from(self.places[node.number])])
+    pub fn tally<T: Number>(&self, tallies: &[T], node: Node) -> usize {
+        self.count(tallies, node)
+    }
+
+    fn place(&self, node: Node) -> usize {
+        self.places[node.number].into()
     }
 
     /// The counts that belong to these slots, M at number 0. 01: "Each count is the
     /// number of entries in its range."
-    pub fn counts(&self, slots: &Slots) -> Counts {
+    pub fn counts<T: Number>(&self, slots: &[u64]) -> Vec<T> {
         let mut counts = self.numbers(slots, |_| true);
-        counts[SIZE] = self.m as u16;
+        counts[SIZE] = T::of(self.m);
         counts
     }
 
     /// The tallies that belong to these slots. 02, F-11: "Each range gets the number
     /// of its scoring entries", "its number 0 is zero".
-    pub fn tallies(&self, slots: &Slots) -> Tallies {
+    pub fn tallies<T: Number>(&self, slots: &[u64]) -> Vec<T> {
         self.numbers(slots, scores)
     }
 
     /// The number of such entries of each range, at the range's place. Those of a leaf
     /// are counted in its slots; a range above has those of both its halves.
-    fn numbers(&self, slots: &Slots, such: impl Fn(u64) -> bool) -> Counts {
-        let mut numbers = [0; COUNTS];
+    fn numbers<T: Number>(&self, slots: &[u64], such: impl Fn(u64) -> bool) -> Vec<T> {
+        let mut numbers = vec![T::default(); T::CAPACITY.counts];
         for node in (0..=self.height).rev().flat_map(Node::all_at) {
             let number = if node.depth == self.height {
                 let leaf = &slots[self.slots_under(node)];
@@ -139,11 +144,11 @@ impl Shape {
 
     /// The number of the scoring entries before a rank below N. 02, F-11: "found on
     /// the path down", by the tallies of the left halves that lie before the path.
-    pub fn scoring_before(
+    pub fn scoring_before<T: Number>(
         &self,
-        slots: &Slots,
-        counts: &Counts,
-        tallies: &Tallies,
+        slots: &[u64],
+        counts: &[T],
+        tallies: &[T],
         rank: usize,
     ) -> usize {
         let (mut node, mut rank, mut scoring) = (Node::ROOT, rank, 0);
@@ -168,7 +173,8 @@ impl Shape {
     }
 
     /// Where the candidates stand among the `n` entries of a range above the
-    /// leaves. They fit in every sheet (tested over all sizes in `sizes`).
+    /// leaves. They fit in every sheet (tested over all sizes in
+    /// `tests/federation/sizes.rs`).
     pub fn candidate_positions(&self, depth: usize, n: usize) -> Range<usize> {
         candidate_positions(n, self.candidates(depth)).expect("candidates fit")
     }
@@ -187,45 +193,42 @@ impl Shape {
     }
 
     /// Each leaf under a range: the number of its first slot, and its count.
-    fn leaf_counts<'a>(
+    fn leaf_counts<'a, T: Number>(
         &self,
         node: Node,
-        counts: &'a Counts,
+        counts: &'a [T],
     ) -> impl Iterator<Item = (usize, usize)> + 'a {
         let (first, leaf_slots) = (self.leaves(), self.leaf_slots);
         let places = self.places;
         self.leaves_under(node).map(move |leaf| {
             let place = usize::from(places[first + leaf]);
-            (leaf * leaf_slots, usize::from(counts[place]))
+            (leaf * leaf_slots, counts[place].value())
         })
     }
 
     /// Each slot that holds an entry under a range, in list order.
-    pub fn entry_slots<'a>(
+    pub fn entry_slots<'a, T: Number>(
         &self,
         node: Node,
-        counts: &'a Counts,
+        counts: &'a [T],
     ) -> impl Iterator<Item = usize> + 'a {
         let leaf_slots = self.leaf_slots;
         self.leaf_counts(node, counts)
             .flat_map(move |(start, n)| Spread::new(n, leaf_slots).map(move |slot| start + slot))
     }
 
-    /// Copies the entries under a range into the front of `list`, in order.
-    pub fn gather(&self, node: Node, slots: &Slots, counts: &Counts, list: &mut [u64]) {
-        let mut gathered = 0;
+    /// The entries under a range, in order.
+    pub fn gather<T: Number>(&self, node: Node, slots: &[u64], counts: &[T]) -> Vec<u64> {
+        let mut list = Vec::with_capacity(self.count(counts, node));
         for (start, n) in self.leaf_counts(node, counts) {
             let leaf = &slots[start..start + self.leaf_slots];
-            let front = &mut list[gathered..gathered + n];
-            for (place, slot) in front.iter_mut().zip(Spread::new(n, self.leaf_slots)) {
-                *place = leaf[slot];
-            }
-            gathered += n;
+            list.extend(Spread::new(n, self.leaf_slots).map(|slot| leaf[slot]));
         }
+        list
     }
 
     /// Puts `list` into the leaves under a range, whose slots are all zero.
-    pub fn lay_out(&self, node: Node, slots: &mut Slots, counts: &Counts, list: &[u64]) {
+    pub fn lay_out<T: Number>(&self, node: Node, slots: &mut [u64], counts: &[T], list: &[u64]) {
         let mut laid = 0;
         for (start, n) in self.leaf_counts(node, counts) {
             let leaf = &mut slots[start..start + self.leaf_slots];
@@ -247,32 +250,33 @@ pub struct Sheet {
 
 impl Sheet {
     /// The shape and the length that the counts of a sheet tell.
-    pub fn told_by(counts: &Counts) -> Sheet {
+    pub fn told_by<T: Number>(counts: &[T]) -> Sheet {
         Sheet {
-            shape: Shape::of(usize::from(counts[SIZE])),
-            n: usize::from(counts[ROOT]),
+            shape: Shape::of(counts[SIZE].value()),
+            n: counts[ROOT].value(),
         }
     }
 }
 
 /// The sheet in a store, or none where no list, size and balance entries lay
-/// out exactly this store (01, cause 2). 02, F-11: "A wrong tally is cause 2".
-pub fn sheet_in(slots: &Slots, counts: &Counts, tallies: &Tallies) -> Option<Sheet> {
-    let (m, n) = (usize::from(counts[SIZE]), usize::from(counts[ROOT]));
-    if n > MAX_ENTRIES || !Size::new(m).allows(n) {
+/// out exactly this store (01, cause 2). 02, F-11: "A wrong tally is cause 2". The
+/// slices have the lengths of the store.
+pub fn sheet_in<T: Number>(slots: &[u64], counts: &[T], tallies: &[T]) -> Option<Sheet> {
+    let (m, n) = (counts[SIZE].value(), counts[ROOT].value());
+    if n > T::CAPACITY.entries || !Size::new(m).allows(n) {
         return None;
     }
     let sheet = Sheet::told_by(counts);
     let shape = &sheet.shape;
     let sound = counts_are_sound(shape, counts)
         && slots_are_sound(shape, slots, counts)
-        && *tallies == shape.tallies(slots);
+        && tallies == shape.tallies::<T>(slots);
     sound.then_some(sheet)
 }
 
 /// Each range above the leaves is split at a candidate, and the counts that
 /// belong to no range are zero.
-fn counts_are_sound(shape: &Shape, counts: &Counts) -> bool {
+fn counts_are_sound<T: Number>(shape: &Shape, counts: &[T]) -> bool {
     let halves_are_sound = (0..shape.height).all(|depth| {
         let c = shape.candidates(depth);
         Node::all_at(depth).all(|node| {
@@ -287,7 +291,7 @@ fn counts_are_sound(shape: &Shape, counts: &Counts) -> bool {
 }
 
 /// Each leaf is spread by its count, and the slots after the leaves are zero.
-fn slots_are_sound(shape: &Shape, slots: &Slots, counts: &Counts) -> bool {
+fn slots_are_sound<T: Number>(shape: &Shape, slots: &[u64], counts: &[T]) -> bool {
     shape
         .leaf_counts(Node::ROOT, counts)
         .all(|(start, n)| leaf_is_spread(&slots[start..start + shape.leaf_slots], n))
@@ -303,7 +307,10 @@ fn leaf_is_spread(leaf: &[u64], n: usize) -> bool {
 
 /// Whether all values are zero. They are joined by "or" and compared once, as
 /// in a sheet all of them must be looked at anyway.
-fn all_zero<T: Copy + Default + PartialEq + BitOr<Output = T>>(part: &[T]) -> bool {
+pub(crate) fn all_zero<T>(part: &[T]) -> bool
+where
+    T: Copy + Default + PartialEq + BitOr<Output = T>,
+{
     let joined = part.iter().fold(T::default(), |any, &value| any | value);
     joined == T::default()
 }
@@ -327,12 +334,15 @@ mod tests {
     }
 
     #[test]
-    fn shapes_fit_the_store() {
-        for m in 0..=2047 {
-            let shape = Shape::of(m);
-            assert!(shape.height <= MAX_HEIGHT);
-            assert!(shape.slots() <= SLOTS && 2 * shape.leaves() <= COUNTS);
-            assert_eq!(shape.slots() as u128, Size::new(m).slots());
+    fn shapes_fit_their_store() {
+        for capacity in [CLUBS, FEDERATION] {
+            for m in 0..=capacity.largest_m() {
+                let shape = Shape::of(m);
+                assert!(shape.height <= capacity.height());
+                assert!(shape.slots() <= capacity.slots);
+                assert!(2 * shape.leaves() <= capacity.counts);
+                assert_eq!(shape.slots() as u128, Size::new(m).slots());
+            }
         }
     }
 
@@ -349,50 +359,73 @@ mod tests {
 
     #[test]
     fn the_empty_store_is_the_only_sheet_without_entries() {
-        let (mut slots, mut counts, mut tallies) = ([0; SLOTS], [0; COUNTS], [0; TALLIES]);
-        assert_eq!(sheet_in(&slots, &counts, &tallies).unwrap().n, 0);
-        slots[0] = 1;
-        assert!(sheet_in(&slots, &counts, &tallies).is_none());
-        slots[0] = 0;
-        counts[SIZE] = 1;
-        assert!(sheet_in(&slots, &counts, &tallies).is_none());
-        counts[SIZE] = 0;
-        counts[255] = 1;
-        assert!(sheet_in(&slots, &counts, &tallies).is_none());
-        counts[255] = 0;
-        for number in 0..TALLIES {
-            tallies[number] = 1;
-            assert!(sheet_in(&slots, &counts, &tallies).is_none());
-            tallies[number] = 0;
+        without_entries::<u16>();
+        without_entries::<u32>();
+    }
+
+    fn without_entries<T: Number>() {
+        let (mut slots, mut counts, mut tallies) = (
+            vec![0; T::CAPACITY.slots],
+            vec![T::default(); T::CAPACITY.counts],
+            vec![T::default(); T::CAPACITY.counts],
+        );
+        let found = |slots: &[u64], counts: &[T], tallies: &[T]| {
+            sheet_in(slots, counts, tallies).map(|sheet| sheet.n)
+        };
+        assert_eq!(found(&slots, &counts, &tallies), Some(0));
+        for slot in [0, 1, T::CAPACITY.slots - 1] {
+            slots[slot] = 1;
+            assert_eq!(found(&slots, &counts, &tallies), None);
+            slots[slot] = 0;
+        }
+        for number in [SIZE, ROOT, 2, T::CAPACITY.counts - 1] {
+            counts[number] = T::of(1);
+            assert_eq!(found(&slots, &counts, &tallies), None);
+            counts[number] = T::of(0);
+        }
+        for number in (0..256).chain([T::CAPACITY.counts - 1]) {
+            tallies[number] = T::of(1);
+            assert_eq!(found(&slots, &counts, &tallies), None);
+            tallies[number] = T::of(0);
         }
     }
 
     /// Slots that no leaf uses hold entries too: no count and no tally has them.
     #[test]
     fn counts_and_tallies_of_each_range() {
+        for m in [0, 1, 2, 64, 65, 112, 128, 129, 700, 1407, 1408, 2047] {
+            counts_and_tallies_of::<u16>(m);
+            counts_and_tallies_of::<u32>(m);
+        }
+        for m in [2048, 4097, 69_631, 69_632, 131_071] {
+            counts_and_tallies_of::<u32>(m);
+        }
+    }
+
+    fn counts_and_tallies_of<T: Number>(m: usize) {
         let mut random = SplitMix64::new(1);
-        let slots: Slots = std::array::from_fn(|_| match random.below(3) {
+        let mut slots = vec![0; T::CAPACITY.slots];
+        slots.fill_with(|| match random.below(3) {
             0 => 0,
             _ => random.entry(),
         });
-        for m in [0, 1, 2, 64, 65, 112, 128, 129, 700, 1407, 1408, 2047] {
-            let shape = Shape::of(m);
-            let (mut counts, mut tallies) = ([0; COUNTS], [0; TALLIES]);
-            counts[0] = m as u16;
-            for range in 1..2 * shape.leaves() {
-                let node = Node {
-                    number: range,
-                    depth: (usize::BITS - 1 - range.leading_zeros()) as usize,
-                };
-                let held = slots[shape.slots_under(node)].iter();
-                let entries = held.filter(|&&slot| slot != 0);
-                let scoring = entries.clone().filter(|&&slot| slot & RETIRED == 0);
-                let place = order::place(range, shape.height + 1);
-                counts[place] = entries.count() as u16;
-                tallies[place] = scoring.count() as u16;
-            }
-            assert_eq!(shape.counts(&slots), counts, "M {m}");
-            assert_eq!(shape.tallies(&slots), tallies, "M {m}");
+        let shape = Shape::of(m);
+        let mut counts = vec![T::default(); T::CAPACITY.counts];
+        let mut tallies = counts.clone();
+        counts[0] = T::of(m);
+        for range in 1..2 * shape.leaves() {
+            let node = Node {
+                number: range,
+                depth: (usize::BITS - 1 - range.leading_zeros()) as usize,
+            };
+            let held = slots[shape.slots_under(node)].iter();
+            let entries = held.filter(|&&slot| slot != 0);
+            let scoring = entries.clone().filter(|&&slot| slot & RETIRED == 0);
+            let place = order::place(range, shape.height + 1);
+            counts[place] = T::of(entries.count());
+            tallies[place] = T::of(scoring.count());
         }
+        assert_eq!(shape.counts::<T>(&slots), counts, "M {m}");
+        assert_eq!(shape.tallies::<T>(&slots), tallies, "M {m}");
     }
 }

@@ -1,10 +1,11 @@
 //! The packed finishing sheet: a second implementation, to compare the proved
 //! one with. The law is the paper `01-scope.md`, cited here as "01", with the
 //! requests F-1 (timed sheets), F-2 (the leaf rule), F-3 (dead heats), F-5 (the
-//! order of the counts), F-9 (the notice board), F-11 (retired boats) and F-13
-//! (mending) of `02-change-requests.md`, cited as "02"; every rule is written as its
-//! sentence reads, not in a shortened form.
+//! order of the counts), F-9 (the notice board), F-11 (retired boats), F-13 (mending)
+//! and F-14 (the federation's list) of `02-change-requests.md`, cited as "02"; every rule
+//! is written as its sentence reads, not in a shortened form.
 //!
+//! - [`capacity`]: the clubs' and the federation's store, told by the width of counts
 //! - [`coins`]: draws, from a tape of words or from given faces
 //! - [`sizes`]: what the size parameter M and the length N decide
 //! - [`order`]: the Van Emde Boas order of the counts
@@ -28,6 +29,7 @@
 
 pub mod board;
 pub mod calls;
+pub mod capacity;
 pub mod coins;
 pub mod conversions;
 pub mod corrections;

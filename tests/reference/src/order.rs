@@ -1,6 +1,6 @@
 //! Van Emde Boas order: where the counts of the ranges stand (02, F-5).
 
-use crate::layout::{COUNTS, MAX_HEIGHT};
+use crate::capacity::FEDERATION;
 
 /// The ranges of the tree of `levels` levels under range `root`, in the order in
 /// which their counts stand. A tree has at least one level.
@@ -45,37 +45,31 @@ const fn ranges_of(levels: usize) -> usize {
     (1 << levels) - 1
 }
 
-/// The place of each range of a tree; numbers that no range has stay where they
-/// are. "Count 0 stays first and unused counts follow."
-pub type Places = [u8; COUNTS];
+/// The levels of the highest tree, that of the federation's largest sheets.
+const LEVELS: usize = FEDERATION.height() + 1;
 
-/// The places in the tree of a sheet of this height, which has one level more.
-pub fn places(height: usize) -> &'static Places {
-    &PLACES[height]
+/// The places of the ranges of all trees of 1 to 13 levels, each worked out by the rule;
+/// 02, F-14: "trees of more than eight levels are worked out by the rule of F-5". Range k
+/// of the tree of L levels has number 2^L + k here. 02, F-5: "Count 0 stays first".
+static PLACES: [u16; 2 << LEVELS] = all_places();
+
+/// The places of the ranges in the tree of a sheet of this height, which has one level
+/// more.
+pub fn places(height: usize) -> &'static [u16] {
+    let numbers = ranges_of(height + 1) + 1;
+    &PLACES[numbers..2 * numbers]
 }
 
-static PLACES: [Places; MAX_HEIGHT + 1] = all_places();
-
-const fn all_places() -> [Places; MAX_HEIGHT + 1] {
-    let mut all = [[0; COUNTS]; MAX_HEIGHT + 1];
-    let mut height = 0;
-    while height <= MAX_HEIGHT {
-        all[height] = places_in_levels(height + 1);
-        height += 1;
-    }
-    all
-}
-
-const fn places_in_levels(levels: usize) -> Places {
-    let mut places = [0; COUNTS];
-    let mut k = 1;
-    while k < COUNTS {
-        places[k] = if k <= ranges_of(levels) {
-            place(k, levels) as u8
-        } else {
-            k as u8
-        };
-        k += 1;
+const fn all_places() -> [u16; 2 << LEVELS] {
+    let mut places = [0; 2 << LEVELS];
+    let mut levels = 1;
+    while levels <= LEVELS {
+        let mut k = 1;
+        while k <= ranges_of(levels) {
+            places[(1 << levels) + k] = place(k, levels) as u16;
+            k += 1;
+        }
+        levels += 1;
     }
     places
 }
@@ -127,16 +121,11 @@ mod tests {
 
     #[test]
     fn tables_hold_the_places() {
-        for height in 0..=MAX_HEIGHT {
-            let places = places(height);
-            let order = ranges(1, height + 1);
-            assert_eq!(places[0], 0);
-            for (&k, stands) in order.iter().zip(1..) {
+        for height in 0..=FEDERATION.height() {
+            let (places, order) = (places(height), ranges(1, height + 1));
+            assert_eq!((places.len(), places[0]), (order.len() + 1, 0));
+            for (k, stands) in order.into_iter().zip(1..) {
                 assert_eq!(usize::from(places[k]), stands);
-            }
-            let others = places.iter().enumerate().skip(order.len() + 1);
-            for (k, &stands) in others {
-                assert_eq!(usize::from(stands), k);
             }
         }
     }

@@ -3,8 +3,9 @@
 //! A [`Plan`] holds what they decided. Nothing of the store is written here, so
 //! an undecided draw leaves no trace.
 
+use crate::capacity::Number;
 use crate::coins::{Source, Undecided};
-use crate::layout::{Counts, Node, Shape, COUNTS, ROOT, SIZE};
+use crate::layout::{Node, Shape, ROOT, SIZE};
 use std::cmp::Ordering;
 use std::ops::Range;
 
@@ -42,31 +43,31 @@ impl Change {
 /// What the draws decided: all counts after the change, and the one range whose
 /// leaves are to be laid out anew, with the change as that range sees it.
 #[derive(Clone, Debug)]
-pub struct Plan {
-    pub counts: Counts,
+pub struct Plan<T> {
+    pub counts: Vec<T>,
     pub node: Node,
     pub change: Change,
 }
 
-impl Plan {
+impl<T: Number> Plan<T> {
     pub fn n(&self) -> usize {
-        usize::from(self.counts[ROOT])
+        self.counts[ROOT].value()
     }
 
     pub fn m(&self) -> usize {
-        usize::from(self.counts[SIZE])
+        self.counts[SIZE].value()
     }
 }
 
 /// Draws for `change` on a sheet of the given shape and counts. An insert needs
-/// N < 1,024 and rank ≤ N, a delete rank < N.
-pub fn plan<S: Source>(
+/// a list that is not the longest and rank ≤ N, a delete rank < N.
+pub fn plan<T: Number, S: Source>(
     shape: &Shape,
-    counts: &Counts,
+    counts: &[T],
     change: Change,
     source: &mut S,
-) -> Result<Plan, Undecided> {
-    let n = usize::from(counts[ROOT]);
+) -> Result<Plan<T>, Undecided> {
+    let n = counts[ROOT].value();
     match new_size(change, n, shape.m, source)? {
         Some(m) => build_sheet(m, n, change, source),
         None => walk_down(shape, counts, change, source),
@@ -123,15 +124,15 @@ fn size_for_delete<S: Source>(
 
 /// 01: "If this step set M anew, the whole sheet is rebuilt, even if the value
 /// is equal."
-fn build_sheet<S: Source>(
+fn build_sheet<T: Number, S: Source>(
     m: usize,
     n: usize,
     change: Change,
     source: &mut S,
-) -> Result<Plan, Undecided> {
-    let mut counts = [0; COUNTS];
-    counts[SIZE] = m as u16;
-    counts[ROOT] = change.length_after(n) as u16;
+) -> Result<Plan<T>, Undecided> {
+    let mut counts = vec![T::default(); T::CAPACITY.counts];
+    counts[SIZE] = T::of(m);
+    counts[ROOT] = T::of(change.length_after(n));
     rebuild(&Shape::of(m), &mut counts, Node::ROOT, source)?;
     Ok(Plan {
         counts,
@@ -143,9 +144,9 @@ fn build_sheet<S: Source>(
 /// 01: "Rebuilding a range draws its balance entry (face f: candidate f, from
 /// 0), then its left half and then its right half in the same way; a leaf draws
 /// nothing." The count of the range itself stands already.
-fn rebuild<S: Source>(
+fn rebuild<T: Number, S: Source>(
     shape: &Shape,
-    counts: &mut Counts,
+    counts: &mut [T],
     node: Node,
     source: &mut S,
 ) -> Result<(), Undecided> {
@@ -159,9 +160,9 @@ fn rebuild<S: Source>(
 }
 
 /// Splits a range before the balance entry and rebuilds both halves.
-fn rebuild_halves<S: Source>(
+fn rebuild_halves<T: Number, S: Source>(
     shape: &Shape,
-    counts: &mut Counts,
+    counts: &mut [T],
     node: Node,
     balance: usize,
     source: &mut S,
@@ -176,13 +177,13 @@ fn rebuild_halves<S: Source>(
 
 /// M was kept: the walk down from the root, to the first range whose balance
 /// entry changes or else to a leaf.
-fn walk_down<S: Source>(
+fn walk_down<T: Number, S: Source>(
     shape: &Shape,
-    before: &Counts,
+    before: &[T],
     change: Change,
     source: &mut S,
-) -> Result<Plan, Undecided> {
-    let mut counts = *before;
+) -> Result<Plan<T>, Undecided> {
+    let mut counts = before.to_vec();
     let mut node = Node::ROOT;
     let mut change = change;
     loop {
@@ -207,9 +208,9 @@ fn walk_down<S: Source>(
 /// Compares the candidates of a range before and after the change, and draws as
 /// that asks. True if the balance entry changed and the range was rebuilt; `n`
 /// and `balance` are its length and the position of its balance entry before.
-fn range_changes<S: Source>(
+fn range_changes<T: Number, S: Source>(
     shape: &Shape,
-    counts: &mut Counts,
+    counts: &mut [T],
     node: Node,
     n: usize,
     balance: usize,
@@ -322,6 +323,7 @@ fn draw<S: Source>(source: &mut S, m: usize) -> Result<usize, Undecided> {
 mod tests {
     use super::*;
     use crate::coins::{Faces, Tape};
+    use crate::layout::COUNTS;
     use crate::sizes::candidate_positions;
 
     /// The size after a step with these faces, all of which it must take.
@@ -426,7 +428,7 @@ mod tests {
 
     /// A sheet of 34 entries with M = 65: candidates 3, 2, 1 by depth, root
     /// candidates at positions 15 to 17, the balance entry the middle one.
-    fn counts_of_34() -> Counts {
+    fn counts_of_34() -> [u16; COUNTS] {
         let mut counts = [0; COUNTS];
         counts[SIZE] = 65;
         counts[ROOT] = 34;

@@ -1,11 +1,13 @@
 //! Histories, courses and exact tables of shares (01, "Histories and shares"). 02,
-//! F-11: "The new slice is part of the sheet for clause 9", the tallies.
+//! F-11: "The new slice is part of the sheet for clause 9", the tallies. F-14: "The clause
+//! about equal shares holds for federation histories among themselves".
 
 use crate::calls::{self, Answer, Cause};
+use crate::capacity::Number;
 use crate::coins::{Source, Undecided};
-use crate::layout::{Counts, Slots, Tallies, COUNTS, SLOTS, TALLIES};
+use crate::layout::all_zero;
 use std::collections::BTreeMap;
-use std::ops::{Add, Mul};
+use std::ops::{Add, BitOr, Mul};
 
 /// A fraction of whole numbers in lowest terms.
 #[derive(Clone, Copy, Debug, PartialEq, Eq, PartialOrd, Ord)]
@@ -188,21 +190,25 @@ pub enum Call {
     Check,
 }
 
-/// A store of the right lengths.
+/// A store of the right lengths, which the width of its counts tells.
 #[derive(Clone, Debug, PartialEq, Eq)]
-pub struct Store {
-    pub slots: Box<Slots>,
-    pub counts: Box<Counts>,
-    pub tallies: Box<Tallies>,
+pub struct StoreOf<T> {
+    pub slots: Box<[u64]>,
+    pub counts: Box<[T]>,
+    pub tallies: Box<[T]>,
 }
 
-impl Store {
+/// A store of the clubs.
+pub type Store = StoreOf<u16>;
+
+impl<T: Number> StoreOf<T> {
     /// A cleared store.
     pub fn cleared() -> Self {
-        Store {
-            slots: Box::new([0; SLOTS]),
-            counts: Box::new([0; COUNTS]),
-            tallies: Box::new([0; TALLIES]),
+        let numbers = vec![T::default(); T::CAPACITY.counts].into_boxed_slice();
+        StoreOf {
+            slots: vec![0; T::CAPACITY.slots].into(),
+            counts: numbers.clone(),
+            tallies: numbers,
         }
     }
 
@@ -239,30 +245,62 @@ impl Store {
     }
 
     /// Every slot, every count and every tally, as a key for tables.
-    pub fn sheet(&self) -> SheetKey {
-        SheetKey {
-            slots: without_last_zeros(&self.slots[..]),
-            counts: without_last_zeros(&self.counts[..]),
-            tallies: without_last_zeros(&self.tallies[..]),
+    pub fn sheet(&self) -> KeyOf<T> {
+        KeyOf {
+            slots: without_last_zeros(&self.slots),
+            counts: without_last_zeros(&self.counts),
+            tallies: without_last_zeros(&self.tallies),
         }
+    }
+
+    /// Gives the store these contents.
+    pub fn hold(&mut self, sheet: &KeyOf<T>) {
+        hold(&mut self.slots, &sheet.slots);
+        hold(&mut self.counts, &sheet.counts);
+        hold(&mut self.tallies, &sheet.tallies);
+    }
+
+    /// The table of a history as it is defined: all its courses, each run from the
+    /// cleared store. The courses must be few.
+    pub fn shares_by_courses(history: &[Call]) -> Table<KeyOf<T>> {
+        let mut store = Self::cleared();
+        let start = store.sheet();
+        table_of(every_course(|course| {
+            store.hold(&start);
+            for &call in history {
+                store.call(call, course);
+            }
+            store.sheet()
+        }))
+    }
+
+    /// The same table worked out call by call: courses that have led to the same
+    /// sheet go on together. This holds because the draws of a call depend on the
+    /// sheet and its arguments alone.
+    pub fn shares_by_calls(history: &[Call]) -> Table<KeyOf<T>> {
+        let start = Table::from([(Self::cleared().sheet(), Share::ONE)]);
+        history
+            .iter()
+            .fold(start, |table, &call| after_call(&table, call))
     }
 }
 
 /// All contents of a store; the zeros at the ends of its slices are left out.
 #[derive(Clone, Debug, PartialEq, Eq, PartialOrd, Ord)]
-pub struct SheetKey {
-    counts: Vec<u16>,
-    tallies: Vec<u16>,
+pub struct KeyOf<T> {
+    counts: Vec<T>,
+    tallies: Vec<T>,
     slots: Vec<u64>,
 }
 
-impl SheetKey {
+/// The contents of a clubs' store.
+pub type SheetKey = KeyOf<u16>;
+
+impl<T: Number> KeyOf<T> {
     /// The store with these contents.
-    pub fn store(&self) -> Store {
-        let mut store = Store::cleared();
-        store.slots[..self.slots.len()].copy_from_slice(&self.slots);
-        store.counts[..self.counts.len()].copy_from_slice(&self.counts);
-        store.tallies[..self.tallies.len()].copy_from_slice(&self.tallies);
+    pub fn store(&self) -> StoreOf<T> {
+        let mut store = StoreOf::cleared();
+        store.hold(self);
         store
     }
 
@@ -273,41 +311,47 @@ impl SheetKey {
     }
 }
 
-pub(crate) fn without_last_zeros<T: Copy + Default + PartialEq>(values: &[T]) -> Vec<T> {
-    let used = values.iter().rposition(|&value| value != T::default());
-    values[..used.map_or(0, |last| last + 1)].to_vec()
+/// The values up to the last that is not zero. Most slots are zero: whole blocks of them
+/// are left out first.
+pub(crate) fn without_last_zeros<T>(values: &[T]) -> Vec<T>
+where
+    T: Copy + Default + PartialEq + BitOr<Output = T>,
+{
+    const BLOCK: usize = 64;
+    let mut blocks = values.chunks(BLOCK);
+    let end = blocks
+        .rposition(|block| !all_zero(block))
+        .map_or(0, |last| BLOCK * (last + 1));
+    let front = &values[..end.min(values.len())];
+    let used = front.iter().rposition(|&value| value != T::default());
+    front[..used.map_or(0, |last| last + 1)].to_vec()
+}
+
+/// Puts values into the front of a slice, and zeros behind them.
+pub(crate) fn hold<T: Copy + Default>(slice: &mut [T], values: &[T]) {
+    let (front, rest) = slice.split_at_mut(values.len());
+    front.copy_from_slice(values);
+    rest.fill(T::default());
 }
 
 /// A table of shares. A sheet that is not in it has the share 0.
 pub type Table<Key = SheetKey> = BTreeMap<Key, Share>;
 
-/// The table of a history as it is defined: all its courses, each run from the
-/// cleared store. The courses must be few.
+/// The table of a history on the clubs' store, by all courses.
 pub fn shares_by_courses(history: &[Call]) -> Table {
-    let ends = every_course(|course| {
-        let mut store = Store::cleared();
-        for &call in history {
-            store.call(call, course);
-        }
-        store.sheet()
-    });
-    table_of(ends)
+    Store::shares_by_courses(history)
 }
 
-/// The same table worked out call by call: courses that have led to the same
-/// sheet go on together. This holds because the draws of a call depend on the
-/// sheet and its arguments alone.
+/// The same table, call by call.
 pub fn shares_by_calls(history: &[Call]) -> Table {
-    let start = Table::from([(Store::cleared().sheet(), Share::ONE)]);
-    history
-        .iter()
-        .fold(start, |table, &call| after_call(&table, call))
+    Store::shares_by_calls(history)
 }
 
 /// The table after one more call.
-pub fn after_call(table: &Table, call: Call) -> Table {
+pub fn after_call<T: Number>(table: &Table<KeyOf<T>>, call: Call) -> Table<KeyOf<T>> {
+    let mut store = StoreOf::cleared();
     after_step(table, |sheet, course| {
-        let mut store = sheet.store();
+        store.hold(sheet);
         store.call(call, course);
         store.sheet()
     })
@@ -380,20 +424,51 @@ mod tests {
 
     #[test]
     fn a_sheet_gives_its_store_back() {
-        let mut store = Store::cleared();
-        store.slots[4223] = 5;
-        store.counts[7] = 3;
-        store.tallies[255] = 2;
+        gives_its_store_back::<u16>();
+        gives_its_store_back::<u32>();
+    }
+
+    #[test]
+    fn zeros_at_the_end_are_left_out() {
+        for length in [0, 1, 63, 64, 65, 127, 128, 200] {
+            let mut values = vec![0u16; length];
+            assert_eq!(without_last_zeros(&values), []);
+            for last in 0..length {
+                values[last] = 7;
+                assert_eq!(without_last_zeros(&values), values[..=last]);
+            }
+        }
+    }
+
+    fn gives_its_store_back<T: Number>() {
+        let mut store = StoreOf::<T>::cleared();
         assert_eq!(store.sheet().store(), store);
+        store.slots[T::CAPACITY.slots - 1] = 5;
+        store.counts[7] = T::of(3);
+        store.tallies[T::CAPACITY.counts - 1] = T::of(2);
+        assert_eq!(store.sheet().store(), store);
+        // Nothing of former contents stays.
+        let mut other = StoreOf::cleared();
+        other.slots.fill(1);
+        other.counts.fill(T::of(2));
+        other.tallies.fill(T::of(3));
+        other.hold(&store.sheet());
+        assert_eq!(other, store);
     }
 
     /// Stores that differ in one tally are different sheets.
     #[test]
     fn the_tallies_are_part_of_the_sheet() {
-        for number in 0..TALLIES {
-            let mut store = Store::cleared();
-            store.tallies[number] = 1;
-            assert_ne!(store.sheet(), Store::cleared().sheet());
+        each_tally_is_part_of_the_sheet::<u16>(1);
+        each_tally_is_part_of_the_sheet::<u32>(130);
+    }
+
+    fn each_tally_is_part_of_the_sheet<T: Number>(step: usize) {
+        let cleared = StoreOf::<T>::cleared();
+        for number in (0..T::CAPACITY.counts).step_by(step) {
+            let mut store = cleared.clone();
+            store.tallies[number] = T::of(1);
+            assert_ne!(store.sheet(), cleared.sheet());
         }
     }
 }

@@ -1,11 +1,12 @@
 //! Size rules (01, "Size rules"), for any M.
 
+use crate::capacity::CLUBS;
 use std::ops::Range;
 
-/// The longest list.
-pub const MAX_ENTRIES: usize = 1024;
-/// The largest M of a sheet.
-pub const MAX_SIZE: usize = 2 * MAX_ENTRIES - 1;
+/// The longest list of the clubs.
+pub const MAX_ENTRIES: usize = CLUBS.entries;
+/// The largest M of a clubs' sheet.
+pub const MAX_SIZE: usize = CLUBS.largest_m();
 
 /// The size parameter M. It gives its own g, height, slots and candidates.
 #[derive(Clone, Copy, Debug, PartialEq, Eq, PartialOrd, Ord)]

@@ -1,12 +1,12 @@
 //! What the tests of mending (02, F-13) spoil.
 
-use crate::layout::{COUNTS, SIZE, TALLIES};
+use crate::capacity::{Capacity, Number, CLUBS};
+use crate::layout::SIZE;
 use crate::places::{RETIRED, TIED};
 use crate::random::SplitMix64;
-use crate::timed::BALANCE;
 
-/// N and M of some sheets: the smallest, and those before and behind the sizes where
-/// the shape changes.
+/// N and M of some sheets that the clubs can have: the smallest, and those before and
+/// behind the sizes where the shape changes.
 pub const SIZES: [(usize, usize); 22] = [
     (0, 0),
     (1, 1),
@@ -32,24 +32,33 @@ pub const SIZES: [(usize, usize); 22] = [
     (1024, 2047),
 ];
 
-/// How many numbers mending may write: the counts without count 0, the tallies and
-/// the words of the third slice.
-pub const NUMBERS: usize = COUNTS - 1 + TALLIES + BALANCE;
+/// How many numbers mending may write into a store: the counts without count 0, the
+/// tallies and the words of the third slice.
+pub const fn numbers_of(capacity: Capacity) -> usize {
+    counts_and_tallies(capacity) + capacity.counts
+}
+
+const fn counts_and_tallies(capacity: Capacity) -> usize {
+    capacity.counts - 1 + capacity.counts
+}
+
+/// How many they are in a clubs' store.
+pub const NUMBERS: usize = numbers_of(CLUBS);
 
 /// The slices of a timed store in which they stand.
-pub struct Numbers<'a> {
-    pub counts: &'a mut [u16],
-    pub tallies: &'a mut [u16],
+pub struct Numbers<'a, T = u16> {
+    pub counts: &'a mut [T],
+    pub tallies: &'a mut [T],
     pub balance: &'a mut [u64],
 }
 
-impl Numbers<'_> {
+impl<T: Number> Numbers<'_, T> {
     /// Turns bits of one of the numbers, which are taken in this order.
     pub fn turn(self, number: usize, bits: u64) {
         let counts = self.counts[SIZE + 1..].iter_mut();
         match counts.chain(self.tallies).nth(number) {
-            Some(held) => *held ^= bits as u16,
-            None => self.balance[number + BALANCE - NUMBERS] ^= bits,
+            Some(held) => *held = T::low_bits(held.value() as u64 ^ bits),
+            None => self.balance[number - counts_and_tallies(T::CAPACITY)] ^= bits,
         }
     }
 
@@ -57,7 +66,7 @@ impl Numbers<'_> {
     pub fn fill(self, mut value: impl FnMut() -> u64) {
         let counts = self.counts[SIZE + 1..].iter_mut();
         for number in counts.chain(self.tallies) {
-            *number = value() as u16;
+            *number = T::low_bits(value());
         }
         self.balance.fill_with(value);
     }

@@ -1,18 +1,21 @@
-//! Timed sheets (02, F-1, F-3, F-9, F-11, F-13): a sheet whose entries rise strictly,
-//! with a third slice that holds the balance entries as they stand. Rules, layout and
-//! coins are those of a plain sheet: each call here rests on that of [`calls`].
+//! Timed sheets (02, F-1, F-3, F-9, F-11, F-13, F-14): a sheet whose entries rise
+//! strictly, with a third slice that holds the balance entries as they stand. Rules,
+//! layout and coins are those of a plain sheet: each call here rests on that of
+//! [`calls`]. The width of the counts and tallies tells the store, as there.
 
 use crate::board::board_of;
 use crate::calls::{self, list, Answer, Cause};
+use crate::capacity::{Number, CLUBS};
 use crate::coins::{Source, Tape};
-use crate::layout::{Counts, Node, Sheet, Slots, Tallies};
+use crate::layout::{Node, Sheet};
 use crate::mend::Mended;
 use crate::places::{RETIRED, TIED};
 use std::cmp::Ordering;
 
-/// 02, F-1: "A third slice of 256 64-bit words".
-pub const BALANCE: usize = 256;
+/// The words of a third slice of the clubs.
+pub const BALANCE: usize = CLUBS.counts;
 
+/// A third slice of the clubs.
 pub type Balance = [u64; BALANCE];
 
 /// 02, F-3: "Timed sheets compare entries without the bit", bit 63. 02, F-11, of
@@ -23,28 +26,26 @@ pub const fn key(entry: u64) -> u64 {
 }
 
 /// Clear can meet only cause 1, and makes any contents the empty timed sheet.
-pub fn clear(
+pub fn clear<T: Number>(
     slots: &mut [u64],
-    counts: &mut [u16],
-    tallies: &mut [u16],
+    counts: &mut [T],
+    tallies: &mut [T],
     balance: &mut [u64],
 ) -> Answer {
-    if balance.len() != BALANCE {
-        return Answer::Refused(Cause::Lengths);
-    }
-    let answer = calls::clear(slots, counts, tallies);
-    if answer == Answer::Cleared {
-        balance.fill(0);
-    }
-    answer
+    lengths(slots, counts, tallies, balance)
+        .map(|()| {
+            balance.fill(0);
+            calls::clear(slots, counts, tallies)
+        })
+        .into()
 }
 
 /// Inserts an entry, with coins from the start of `tape`. Its rank follows from
 /// its key: the number of entries below.
-pub fn insert(
+pub fn insert<T: Number>(
     slots: &mut [u64],
-    counts: &mut [u16],
-    tallies: &mut [u16],
+    counts: &mut [T],
+    tallies: &mut [T],
     balance: &mut [u64],
     entry: u64,
     tape: &[u32],
@@ -55,10 +56,10 @@ pub fn insert(
 }
 
 /// Deletes the entry at a rank, with coins from the start of `tape`.
-pub fn delete(
+pub fn delete<T: Number>(
     slots: &mut [u64],
-    counts: &mut [u16],
-    tallies: &mut [u16],
+    counts: &mut [T],
+    tallies: &mut [T],
     balance: &mut [u64],
     rank: usize,
     tape: &[u32],
@@ -69,8 +70,14 @@ pub fn delete(
 }
 
 /// 02, F-1: "to find the rank of an entry or learn that it is absent."
-pub fn find(slots: &[u64], counts: &[u16], tallies: &[u16], balance: &[u64], entry: u64) -> Answer {
-    let found = |timed: Timed| match timed.search(given(entry)?) {
+pub fn find<T: Number>(
+    slots: &[u64],
+    counts: &[T],
+    tallies: &[T],
+    balance: &[u64],
+    entry: u64,
+) -> Answer {
+    let found = |timed: Timed<T>| match timed.search(given(entry)?) {
         Ok(rank) => Ok(Answer::Found { rank }),
         Err(rank) => Ok(Answer::Absent { rank }),
     };
@@ -78,10 +85,10 @@ pub fn find(slots: &[u64], counts: &[u16], tallies: &[u16], balance: &[u64], ent
 }
 
 /// Reads ranks `first` to `last` inclusive into the front of `output`.
-pub fn read(
+pub fn read<T: Number>(
     slots: &[u64],
-    counts: &[u16],
-    tallies: &[u16],
+    counts: &[T],
+    tallies: &[T],
     balance: &[u64],
     first: usize,
     last: usize,
@@ -93,10 +100,10 @@ pub fn read(
 }
 
 /// The notice board: reads `ranks` into the front of `output`.
-pub fn board(
+pub fn board<T: Number>(
     slots: &[u64],
-    counts: &[u16],
-    tallies: &[u16],
+    counts: &[T],
+    tallies: &[T],
     balance: &[u64],
     ranks: &[u64],
     output: &mut [u64],
@@ -107,10 +114,10 @@ pub fn board(
 }
 
 /// Place of a rank, by its tied group.
-pub fn place(
+pub fn place<T: Number>(
     slots: &[u64],
-    counts: &[u16],
-    tallies: &[u16],
+    counts: &[T],
+    tallies: &[T],
     balance: &[u64],
     rank: usize,
 ) -> Answer {
@@ -120,7 +127,7 @@ pub fn place(
 }
 
 /// Whether the store is a timed sheet, and its length.
-pub fn check(slots: &[u64], counts: &[u16], tallies: &[u16], balance: &[u64]) -> Answer {
+pub fn check<T: Number>(slots: &[u64], counts: &[T], tallies: &[T], balance: &[u64]) -> Answer {
     open(slots, counts, tallies, balance)
         .map(|timed| Answer::Checked { n: timed.sheet.n })
         .into()
@@ -128,7 +135,12 @@ pub fn check(slots: &[u64], counts: &[u16], tallies: &[u16], balance: &[u64]) ->
 
 /// Puts in the counts, the tallies and the third slice of the timed sheet that has
 /// these slots and this M.
-pub fn mend(slots: &[u64], counts: &mut [u16], tallies: &mut [u16], balance: &mut [u64]) -> Answer {
+pub fn mend<T: Number>(
+    slots: &[u64],
+    counts: &mut [T],
+    tallies: &mut [T],
+    balance: &mut [u64],
+) -> Answer {
     mended(slots, counts, tallies, balance)
         .map(|(mended, third_slice)| {
             balance.copy_from_slice(&third_slice);
@@ -138,16 +150,13 @@ pub fn mend(slots: &[u64], counts: &mut [u16], tallies: &mut [u16], balance: &mu
 }
 
 /// What mending puts in, or the cause 1 or 18.
-fn mended(
+fn mended<T: Number>(
     slots: &[u64],
-    counts: &[u16],
-    tallies: &[u16],
+    counts: &[T],
+    tallies: &[T],
     balance: &[u64],
-) -> Result<(Mended, Balance), Cause> {
-    if balance.len() != BALANCE {
-        return Err(Cause::Lengths);
-    }
-    let (slots, counts, _) = calls::lent(slots, counts, tallies)?;
+) -> Result<(Mended<T>, Vec<u64>), Cause> {
+    lengths(slots, counts, tallies, balance)?;
     let mended = Mended::of(slots, counts)?;
     let third_slice = third_slice_in(slots, &mended.counts);
     open(slots, &mended.counts, &mended.tallies, &third_slice).map_err(|_| Cause::NotMendable)?;
@@ -155,10 +164,10 @@ fn mended(
 }
 
 /// Insert with coins from any source: the new N, or the cause of a refusal.
-pub fn insert_from<S: Source>(
+pub fn insert_from<T: Number, S: Source>(
     slots: &mut [u64],
-    counts: &mut [u16],
-    tallies: &mut [u16],
+    counts: &mut [T],
+    tallies: &mut [T],
     balance: &mut [u64],
     entry: u64,
     source: &mut S,
@@ -168,60 +177,74 @@ pub fn insert_from<S: Source>(
         Ok(_) => return Err(Cause::Present),
         Err(rank) => rank,
     };
-    let sheet = timed.sheet;
-    let (slots, counts, tallies) = calls::lent_mut(slots, counts, tallies)?;
-    let n = calls::insert_into(&sheet, (slots, counts, tallies), rank, entry, source)?;
+    let (sheet, lent) = (timed.sheet, (&mut *slots, &mut *counts, tallies));
+    let n = calls::insert_into(&sheet, lent, rank, entry, source)?;
     balance.copy_from_slice(&third_slice_in(slots, counts));
     Ok(n)
 }
 
 /// Delete with coins from any source: the new N, or the cause of a refusal.
-pub fn delete_from<S: Source>(
+pub fn delete_from<T: Number, S: Source>(
     slots: &mut [u64],
-    counts: &mut [u16],
-    tallies: &mut [u16],
+    counts: &mut [T],
+    tallies: &mut [T],
     balance: &mut [u64],
     rank: usize,
     source: &mut S,
 ) -> Result<usize, Cause> {
     let sheet = open(slots, counts, tallies, balance)?.sheet;
-    let (slots, counts, tallies) = calls::lent_mut(slots, counts, tallies)?;
-    let n = calls::delete_out_of(&sheet, (slots, counts, tallies), rank, source)?;
+    let lent = (&mut *slots, &mut *counts, tallies);
+    let n = calls::delete_out_of(&sheet, lent, rank, source)?;
     balance.copy_from_slice(&third_slice_in(slots, counts));
     Ok(n)
 }
 
 /// The third slice that belongs to these slots, counts and tallies, or the cause 1
 /// or 2 where they are no sheet.
-pub fn balance_entries(slots: &[u64], counts: &[u16], tallies: &[u16]) -> Result<Balance, Cause> {
-    let (slots, counts, tallies) = calls::lent(slots, counts, tallies)?;
-    calls::checked(slots, counts, tallies)?;
+pub fn balance_entries<T: Number>(
+    slots: &[u64],
+    counts: &[T],
+    tallies: &[T],
+) -> Result<Vec<u64>, Cause> {
+    calls::opened(slots, counts, tallies)?;
     Ok(third_slice_in(slots, counts))
 }
 
+/// Cause 1, unless all four slices have the lengths of the store. The third one has as
+/// many words as there are counts.
+fn lengths<T: Number>(
+    slots: &[u64],
+    counts: &[T],
+    tallies: &[T],
+    balance: &[u64],
+) -> Result<(), Cause> {
+    calls::lengths(slots, counts, tallies)?;
+    let right = balance.len() == T::CAPACITY.counts;
+    right.then_some(()).ok_or(Cause::Lengths)
+}
+
 /// A store that is a timed sheet.
-struct Timed<'a> {
+struct Timed<'a, T> {
     sheet: Sheet,
-    slots: &'a Slots,
-    counts: &'a Counts,
-    tallies: &'a Tallies,
-    balance: &'a Balance,
+    slots: &'a [u64],
+    counts: &'a [T],
+    tallies: &'a [T],
+    balance: &'a [u64],
 }
 
 /// The timed sheet in the store, or the cause 1, 2 or 11.
-fn open<'a>(
+fn open<'a, T: Number>(
     slots: &'a [u64],
-    counts: &'a [u16],
-    tallies: &'a [u16],
+    counts: &'a [T],
+    tallies: &'a [T],
     balance: &'a [u64],
-) -> Result<Timed<'a>, Cause> {
-    let balance: &Balance = balance.try_into().map_err(|_| Cause::Lengths)?;
-    let (slots, counts, tallies) = calls::lent(slots, counts, tallies)?;
-    let sheet = calls::checked(slots, counts, tallies)?;
+) -> Result<Timed<'a, T>, Cause> {
+    lengths(slots, counts, tallies, balance)?;
+    let sheet = calls::opened(slots, counts, tallies)?;
     let list = list(&sheet, slots, counts);
     let none_is_zero = list.iter().all(|&entry| key(entry) != 0);
     let rises = list.windows(2).all(|pair| key(pair[0]) < key(pair[1]));
-    if !none_is_zero || !rises || *balance != third_slice(&sheet, counts, &list) {
+    if !none_is_zero || !rises || balance != third_slice(&sheet, counts, &list) {
         return Err(Cause::NotTimed);
     }
     Ok(Timed {
@@ -234,7 +257,7 @@ fn open<'a>(
 }
 
 /// The third slice of the sheet that has these slots and counts.
-fn third_slice_in(slots: &Slots, counts: &Counts) -> Balance {
+fn third_slice_in<T: Number>(slots: &[u64], counts: &[T]) -> Vec<u64> {
     let sheet = Sheet::told_by(counts);
     third_slice(&sheet, counts, &list(&sheet, slots, counts))
 }
@@ -242,9 +265,9 @@ fn third_slice_in(slots: &Slots, counts: &Counts) -> Balance {
 /// 02, F-1: the third slice "holds at the number of each range above the leaves
 /// its balance entry, and zero elsewhere". 01: "It is the first entry of the
 /// right half; the entries before it form the left half."
-fn third_slice(sheet: &Sheet, counts: &Counts, list: &[u64]) -> Balance {
+fn third_slice<T: Number>(sheet: &Sheet, counts: &[T], list: &[u64]) -> Vec<u64> {
     let shape = &sheet.shape;
-    let mut balance = [0; BALANCE];
+    let mut balance = vec![0; T::CAPACITY.counts];
     for depth in 0..shape.height {
         let mut before = 0;
         for node in Node::all_at(depth) {
@@ -265,7 +288,7 @@ fn given(entry: u64) -> Result<u64, Cause> {
     }
 }
 
-impl Timed<'_> {
+impl<T: Number> Timed<'_, T> {
     /// The rank of the entry with this key, or, as an error, the rank at which it
     /// would stand: the number of entries below it.
     fn search(&self, entry: u64) -> Result<usize, usize> {

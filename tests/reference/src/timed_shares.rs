@@ -1,12 +1,12 @@
 //! Timed histories and exact tables of their shares (02, F-1): "A timed sheet
 //! includes that slice wherever sheets are compared or their shares counted".
-//! Courses, shares and tables are those of [`shares`].
+//! Courses, shares and tables are those of [`shares`], for both stores as there.
 
 use crate::calls::{Answer, Cause};
+use crate::capacity::Number;
 use crate::coins::Source;
-use crate::shares::{self, after_step, every_course, table_of, without_last_zeros};
-use crate::shares::{Share, SheetKey};
-use crate::timed::{self, Balance, BALANCE};
+use crate::shares::{self, after_step, every_course, hold, table_of, without_last_zeros, Share};
+use crate::timed;
 
 /// One of the eight calls of a timed history, with its arguments, tapes apart.
 #[derive(Clone, Copy, Debug, PartialEq, Eq)]
@@ -36,20 +36,23 @@ pub enum Call {
     Check,
 }
 
-/// A store of the right lengths.
+/// A store of the right lengths, which the width of its counts tells.
 #[derive(Clone, Debug, PartialEq, Eq)]
-pub struct Store {
+pub struct StoreOf<T> {
     /// Slots, counts and tallies.
-    pub plain: shares::Store,
-    pub balance: Box<Balance>,
+    pub plain: shares::StoreOf<T>,
+    pub balance: Box<[u64]>,
 }
 
-impl Store {
+/// A store of the clubs.
+pub type Store = StoreOf<u16>;
+
+impl<T: Number> StoreOf<T> {
     /// A cleared store.
     pub fn cleared() -> Self {
-        Store {
-            plain: shares::Store::cleared(),
-            balance: Box::new([0; BALANCE]),
+        StoreOf {
+            plain: shares::StoreOf::cleared(),
+            balance: vec![0; T::CAPACITY.counts].into(),
         }
     }
 
@@ -90,28 +93,57 @@ impl Store {
     }
 
     /// The whole store, the third slice included, as a key for tables.
-    pub fn sheet(&self) -> TimedKey {
-        TimedKey {
+    pub fn sheet(&self) -> KeyOf<T> {
+        KeyOf {
             plain: self.plain.sheet(),
-            balance: without_last_zeros(&self.balance[..]),
+            balance: without_last_zeros(&self.balance),
         }
+    }
+
+    /// Gives the store these contents.
+    pub fn hold(&mut self, sheet: &KeyOf<T>) {
+        self.plain.hold(&sheet.plain);
+        hold(&mut self.balance, &sheet.balance);
+    }
+
+    /// The table of a timed history as it is defined: all its courses, each run from
+    /// the cleared store. The courses must be few.
+    pub fn shares_by_courses(history: &[Call]) -> shares::Table<KeyOf<T>> {
+        let mut store = Self::cleared();
+        let start = store.sheet();
+        table_of(every_course(|course| {
+            store.hold(&start);
+            for &call in history {
+                store.call(call, course);
+            }
+            store.sheet()
+        }))
+    }
+
+    /// The same table as by courses, worked out call by call.
+    pub fn shares_by_calls(history: &[Call]) -> shares::Table<KeyOf<T>> {
+        history
+            .iter()
+            .fold(cleared(), |table, &call| after_call(&table, call))
     }
 }
 
 /// All contents of a timed store; the zeros at the ends of its slices are left
 /// out.
 #[derive(Clone, Debug, PartialEq, Eq, PartialOrd, Ord)]
-pub struct TimedKey {
-    plain: SheetKey,
+pub struct KeyOf<T> {
+    plain: shares::KeyOf<T>,
     balance: Vec<u64>,
 }
 
-impl TimedKey {
+/// The contents of a clubs' store.
+pub type TimedKey = KeyOf<u16>;
+
+impl<T: Number> KeyOf<T> {
     /// The store with these contents.
-    pub fn store(&self) -> Store {
-        let mut store = Store::cleared();
-        store.plain = self.plain.store();
-        store.balance[..self.balance.len()].copy_from_slice(&self.balance);
+    pub fn store(&self) -> StoreOf<T> {
+        let mut store = StoreOf::cleared();
+        store.hold(self);
         store
     }
 
@@ -121,37 +153,32 @@ impl TimedKey {
     }
 }
 
-/// A table of shares of timed sheets.
+/// A table of shares of the clubs' timed sheets.
 pub type Table = shares::Table<TimedKey>;
 
-/// The table of a timed history as it is defined: all its courses, each run from
-/// the cleared store. The courses must be few.
+/// The table of a timed history on the clubs' store, by all courses.
 pub fn shares_by_courses(history: &[Call]) -> Table {
-    table_of(every_course(|course| {
-        let mut store = Store::cleared();
-        for &call in history {
-            store.call(call, course);
-        }
-        store.sheet()
-    }))
+    Store::shares_by_courses(history)
+}
+
+/// The same table, call by call.
+pub fn shares_by_calls(history: &[Call]) -> Table {
+    Store::shares_by_calls(history)
 }
 
 /// The table of the empty history.
-pub fn cleared() -> Table {
-    Table::from([(Store::cleared().sheet(), Share::ONE)])
-}
-
-/// The same table as by courses, worked out call by call.
-pub fn shares_by_calls(history: &[Call]) -> Table {
-    history
-        .iter()
-        .fold(cleared(), |table, &call| after_call(&table, call))
+pub fn cleared<T: Number>() -> shares::Table<KeyOf<T>> {
+    shares::Table::from([(StoreOf::cleared().sheet(), Share::ONE)])
 }
 
 /// The table after one more call.
-pub fn after_call(table: &Table, call: Call) -> Table {
+pub fn after_call<T: Number>(
+    table: &shares::Table<KeyOf<T>>,
+    call: Call,
+) -> shares::Table<KeyOf<T>> {
+    let mut store = StoreOf::cleared();
     after_step(table, |sheet, course| {
-        let mut store = sheet.store();
+        store.hold(sheet);
         store.call(call, course);
         store.sheet()
     })
@@ -163,21 +190,36 @@ mod tests {
 
     #[test]
     fn a_sheet_gives_its_store_back() {
-        let mut store = Store::cleared();
-        store.plain.slots[4223] = 5;
-        store.plain.counts[7] = 3;
-        store.plain.tallies[3] = 2;
-        store.balance[255] = 9;
+        gives_its_store_back::<u16>();
+        gives_its_store_back::<u32>();
+    }
+
+    fn gives_its_store_back<T: Number>() {
+        let mut store = StoreOf::<T>::cleared();
+        store.plain.slots[T::CAPACITY.slots - 1] = 5;
+        store.plain.counts[7] = T::of(3);
+        store.plain.tallies[3] = T::of(2);
+        store.balance[T::CAPACITY.counts - 1] = 9;
         assert_eq!(store.sheet().store(), store);
+        let mut other = StoreOf::cleared();
+        other.balance.fill(1);
+        other.hold(&store.sheet());
+        assert_eq!(other, store);
     }
 
     /// Stores that differ in one word of the third slice are different sheets.
     #[test]
     fn the_third_slice_is_part_of_the_sheet() {
-        for word in 0..BALANCE {
-            let mut store = Store::cleared();
+        each_word_is_part_of_the_sheet::<u16>(1);
+        each_word_is_part_of_the_sheet::<u32>(130);
+    }
+
+    fn each_word_is_part_of_the_sheet<T: Number>(step: usize) {
+        let cleared = StoreOf::<T>::cleared();
+        for word in (0..T::CAPACITY.counts).step_by(step) {
+            let mut store = cleared.clone();
             store.balance[word] = 1;
-            assert_ne!(store.sheet(), Store::cleared().sheet());
+            assert_ne!(store.sheet(), cleared.sheet());
         }
     }
 }

@@ -4,41 +4,14 @@
 
 mod common;
 
+use common::all_calls::all_calls;
+use common::damage::judged_as_laid_out;
 use common::*;
-use reference::calls::{self, Answer, Cause};
+use reference::calls::{Answer, Cause};
 use reference::layout::{COUNTS, SLOTS, TALLIES};
-use reference::places::RETIRED;
 use reference::random::SplitMix64;
 use reference::shares::Store;
 use reference::sizes::Size;
-
-/// What seven calls return on these slices with these arguments; only clear
-/// may change them, and it comes last.
-fn all_calls(
-    slots: &mut [u64],
-    counts: &mut [u16],
-    tallies: &mut [u16],
-    rank: usize,
-    entry: u64,
-) -> [u8; 7] {
-    let mut output = [0x55; 2];
-    let answers = [
-        calls::insert(slots, counts, tallies, rank, entry, &[]),
-        calls::delete(slots, counts, tallies, rank, &[]),
-        calls::read(slots, counts, tallies, rank, rank + 5, &mut output),
-        calls::board(slots, counts, tallies, &[rank as u64, 0], &mut output),
-        calls::place(slots, counts, tallies, rank),
-        calls::check(slots, counts, tallies),
-        calls::clear(slots, counts, tallies),
-    ];
-    for answer in answers {
-        if answer.number() != 0 {
-            assert_eq!(answer.values(), [0, 0, 0]);
-        }
-    }
-    assert_eq!(output, [0x55; 2]);
-    answers.map(Answer::number)
-}
 
 #[test]
 fn cause_1_lengths() {
@@ -222,14 +195,7 @@ fn cause_2_on_damaged_sheets() {
     let mut sheets = 0;
     for n in [0, 1, 2, 3, 33, 40, 64, 65, 100, 700, 1024] {
         let sound = sheet_of(n, &mut random);
-        assert!(is_laid_out(&sound));
-        for _ in 0..300 {
-            let mut store = sound.clone();
-            damage(&mut store, &mut random);
-            let found = check(&store).number() == 0;
-            assert_eq!(found, is_laid_out(&store));
-            sheets += usize::from(found);
-        }
+        sheets += judged_as_laid_out(&sound, 300, &mut random);
     }
     // Some changes lead to another sheet, as when one entry takes a new value.
     assert!(sheets > 100);
@@ -282,49 +248,4 @@ fn by_the_leaf_rule_of_01(sheet: &Store) -> Store {
         }
     }
     store
-}
-
-/// One or two small changes of a store.
-fn damage(store: &mut Store, random: &mut SplitMix64) {
-    let slots = (4 * n(store)).clamp(4, SLOTS);
-    let counts = (n(store) / 2).clamp(4, COUNTS);
-    for _ in 0..=random.below(2) {
-        match random.below(8) {
-            0 => store.slots[random.below(slots)] = 0,
-            1 => store.slots[random.below(slots)] = random.entry(),
-            2 => {
-                let slot = random.below(slots - 1);
-                store.slots.swap(slot, slot + 1);
-            }
-            3 => store.counts[random.below(counts)] ^= 1,
-            4 => store.counts[0] = (store.counts[0] + random.below(5) as u16).saturating_sub(2),
-            5 => store.tallies[random.below(counts)] ^= 1 << random.below(3),
-            6 => retire_or_not(store, random),
-            _ => move_a_leaf_entry(store, random),
-        }
-    }
-}
-
-/// Turns bit 62 of an entry; at times the tallies follow.
-fn retire_or_not(store: &mut Store, random: &mut SplitMix64) {
-    let mut entries = store.slots.iter_mut().filter(|slot| **slot != 0);
-    if let Some(entry) = entries.nth(random.below(5)) {
-        *entry ^= RETIRED;
-    }
-    if let (Some(again), 0) = (laid_out_again(store), random.below(2)) {
-        store.tallies = again.tallies;
-    }
-}
-
-/// Moves one of the counted entries from a range to the range beside it.
-fn move_a_leaf_entry(store: &mut Store, random: &mut SplitMix64) {
-    let left = 2 * (1 + random.below(COUNTS / 2 - 1));
-    if left >= 2 << height(m(store)) {
-        return;
-    }
-    let [left, right] = [left, left + 1].map(|range| Order::Tree.place(range, m(store)));
-    if store.counts[left] > 0 {
-        store.counts[left] -= 1;
-        store.counts[right] += 1;
-    }
 }

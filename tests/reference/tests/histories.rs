@@ -3,151 +3,15 @@
 
 mod common;
 
+use common::pairs::Pair;
 use common::*;
 use reference::calls::{Answer, Cause};
-use reference::coins::Tape;
-use reference::places::RETIRED;
 use reference::random::SplitMix64;
 use reference::shares::Store;
 
-/// A store beside the model of its sheet.
-struct Pair {
-    store: Store,
-    model: Model,
-    random: SplitMix64,
-}
-
-impl Pair {
-    fn new(seed: u64) -> Self {
-        Pair {
-            store: Store::cleared(),
-            model: Model::default(),
-            random: SplitMix64::new(seed),
-        }
-    }
-
-    fn n(&self) -> usize {
-        self.model.n()
-    }
-
-    /// An insert at a random rank; one entry in three is a common one. Bit 62 is set
-    /// in none, some, most or all of them, by the length.
-    fn insert(&mut self) {
-        let n = self.n();
-        let rank = self.random.below(n + 1);
-        let entry = match self.random.below(3) {
-            0 => 7,
-            _ => self.random.entry() & !RETIRED | 1,
-        };
-        let retired = self.random.below(16) < [0, 1, 8, 15, 16][n / 16 % 5];
-        let entry = entry | if retired { RETIRED } else { 0 };
-        let words = words(&mut self.random, 1024);
-        let mut tape = Tape::new(&words);
-        let decided = self.model.insert(rank, entry, &mut tape);
-        assert_eq!(decided, Ok(()));
-        self.refuse_shorter(&words, tape.place(), |store, tape| {
-            insert(store, rank, entry, tape)
-        });
-        let answer = insert(&mut self.store, rank, entry, &words);
-        self.agree(answer, tape.place());
-    }
-
-    fn delete(&mut self) {
-        let rank = self.random.below(self.n());
-        let words = words(&mut self.random, 1024);
-        let mut tape = Tape::new(&words);
-        let decided = self.model.delete(rank, &mut tape);
-        assert_eq!(decided, Ok(()));
-        self.refuse_shorter(&words, tape.place(), |store, tape| {
-            delete(store, rank, tape)
-        });
-        let answer = delete(&mut self.store, rank, &words);
-        self.agree(answer, tape.place());
-    }
-
-    /// The call with the tape cut at some place before its last word read is
-    /// refused and changes nothing.
-    fn refuse_shorter(
-        &mut self,
-        words: &[u32],
-        read: usize,
-        call: impl Fn(&mut Store, &[u32]) -> Answer,
-    ) {
-        if read == 0 {
-            return;
-        }
-        let before = self.store.clone();
-        let end = self.random.below(read);
-        let answer = call(&mut self.store, &words[..end]);
-        assert_eq!(answer, Answer::Refused(Cause::TapeEnds));
-        assert!(self.store == before);
-    }
-
-    /// The answer and the whole store are what the model says.
-    fn agree(&mut self, answer: Answer, words: usize) {
-        let n = self.n();
-        assert_eq!(answer, Answer::Changed { n, words });
-        assert!(
-            self.store == self.model.store(),
-            "N {n} M {}",
-            self.model.m()
-        );
-        assert_eq!(check(&self.store), Answer::Checked { n });
-        assert_eq!(list(&self.store), self.model.list());
-    }
-
-    /// Calls that any sheet refuses, at random.
-    fn refused_calls(&mut self) {
-        let n = self.n();
-        let before = self.store.clone();
-        let beyond = n + 1 + self.random.below(70000);
-        let refused = [
-            insert(&mut self.store, beyond, 5, &[0; 64]),
-            insert(&mut self.store, beyond, 0, &[0; 64]),
-            delete(&mut self.store, beyond - 1, &[0; 64]),
-        ];
-        assert_eq!(refused.map(Answer::number), [4, 3, 4]);
-        assert!(self.store == before);
-    }
-
-    /// A read of random ranks.
-    fn read(&mut self) {
-        let n = self.n();
-        if n == 0 {
-            return;
-        }
-        let first = self.random.below(n);
-        let last = first + self.random.below(n - first);
-        let mut output = vec![0; n];
-        let answer = read(&self.store, first, last, &mut output);
-        let entries = last - first + 1;
-        assert_eq!(answer, Answer::Read { entries });
-        assert_eq!(output[..entries], self.model.list()[first..=last]);
-        assert!(output[entries..].iter().all(|&entry| entry == 0));
-    }
-
-    /// Random steps until N is `goal`, three in four towards it.
-    fn go_to(&mut self, goal: usize) {
-        while self.n() != goal {
-            let towards = self.random.below(4) != 0;
-            let grow = (self.n() < goal) == towards;
-            if self.n() == 0 || (grow && self.n() < 1024) {
-                self.insert();
-            } else {
-                self.delete();
-            }
-            match self.random.below(8) {
-                0 => self.refused_calls(),
-                1 => self.read(),
-                _ => {}
-            }
-        }
-    }
-}
-
 #[test]
 fn through_nothing() {
-    let mut pair = Pair::new(10);
+    let mut pair = Pair::<u16>::new(10);
     for _ in 0..60 {
         pair.go_to(6);
         pair.go_to(0);
@@ -157,7 +21,7 @@ fn through_nothing() {
 
 #[test]
 fn through_64_and_65() {
-    let mut pair = Pair::new(11);
+    let mut pair = Pair::<u16>::new(11);
     pair.go_to(30);
     for _ in 0..10 {
         pair.go_to(36);
@@ -169,7 +33,7 @@ fn through_64_and_65() {
 
 #[test]
 fn up_to_1024_and_back() {
-    let mut pair = Pair::new(12);
+    let mut pair = Pair::<u16>::new(12);
     pair.go_to(1024);
     for _ in 0..20 {
         assert_eq!(insert(&mut pair.store, 5, 5, &[0; 64]).number(), 5);
@@ -183,7 +47,7 @@ fn up_to_1024_and_back() {
 #[test]
 fn many_seeds_at_many_lengths() {
     for seed in 0..12 {
-        let mut pair = Pair::new(100 + seed);
+        let mut pair = Pair::<u16>::new(100 + seed);
         for _ in 0..6 {
             let goal = pair.random.below(300);
             pair.go_to(goal);

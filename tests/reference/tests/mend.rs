@@ -4,25 +4,19 @@
 
 mod common;
 
+use common::mending::*;
 use common::*;
 use reference::calls::{self, Answer, Cause};
-use reference::coins::Source;
 use reference::layout::{COUNTS, SIZE, SLOTS, TALLIES};
 use reference::places::{RETIRED, TIED};
 use reference::random::SplitMix64;
-use reference::shares::{every_course, Store as Plain};
-use reference::spoils::{change_slots, Numbers, NUMBERS, SIZES};
+use reference::spoils::{change_slots, NUMBERS, SIZES};
 use reference::timed::{self, BALANCE};
 use reference::timed_shares::Store;
 
-const REFUSED: Answer = Answer::Refused(Cause::NotMendable);
-
-/// The largest M for which all sheets are searched.
-const SEARCHED: usize = 200;
-
 /// A timed sheet of n boats and this size, with random balance entries.
 fn sheet_of_size(n: usize, m: usize, random: &mut SplitMix64) -> Store {
-    lay_out_timed(&boats(n as u64), m, |_, _, c| random.below(c))
+    boats_in(n, m, random)
 }
 
 /// Such sheets of all the sizes.
@@ -31,142 +25,6 @@ fn sheets(seed: u64) -> impl Iterator<Item = Store> {
     SIZES
         .into_iter()
         .map(move |(n, m)| sheet_of_size(n, m, &mut random))
-}
-
-/// The plain store is mended to this plain sheet and the timed one to this timed
-/// sheet; where there is none, it is refused by 18, and nothing changes.
-fn comes_to(store: &Store, plain: Option<&Plain>, timed: Option<&Store>) {
-    let (mut after, mut timed_after) = (store.plain.clone(), store.clone());
-    let answers = [mend(&mut after), timed_mend(&mut timed_after)];
-    let answer = |sheet: &Plain| Answer::Mended { n: n(sheet) };
-    let timed_answer = timed.map_or(REFUSED, |sheet| answer(&sheet.plain));
-    let name = format!(
-        "{} entries, M {}",
-        entries(&store.plain).len(),
-        m(&store.plain)
-    );
-    assert_eq!(
-        answers,
-        [plain.map_or(REFUSED, answer), timed_answer],
-        "{name}"
-    );
-    assert!(after == *plain.unwrap_or(&store.plain), "{name}");
-    assert!(timed_after == *timed.unwrap_or(store), "{name}");
-}
-
-/// Both are mended to this sheet.
-fn mends_to(store: &Store, sheet: &Store) {
-    comes_to(store, Some(&sheet.plain), Some(sheet));
-}
-
-/// Both are refused.
-fn refused(store: &Store) {
-    comes_to(store, None, None);
-}
-
-/// What `keep` takes of all sheets of this list and this M: each balance entry is
-/// chosen in every way.
-fn all_sheets<T>(list: &[u64], m: usize, keep: impl Fn(Plain) -> Option<T>) -> Vec<T> {
-    if !allows(m, list.len()) {
-        return Vec::new();
-    }
-    let kept = every_course(|course| {
-        let sheet = lay_out(list, m, |_, _, c| course.draw(c as u64).unwrap() as usize);
-        keep(sheet)
-    });
-    kept.into_iter().filter_map(|(sheet, _)| sheet).collect()
-}
-
-/// All sheets with the slots and the M of a store: their list is what stands in the
-/// slots.
-fn searched(store: &Plain) -> Vec<Plain> {
-    all_sheets(&entries(store), m(store), |sheet| {
-        (sheet.slots == store.slots).then_some(sheet)
-    })
-}
-
-/// The sheet with these slots whose left halves have as many entries as stand in their
-/// slots: for an M that has too many sheets.
-fn counted(store: &Plain) -> Option<Plain> {
-    let (mut counted, m) = (store.clone(), m(store));
-    if !allows(m, entries(store).len()) {
-        return None;
-    }
-    let leaf = leaf_slots(m);
-    for depth in 1..=height(m) {
-        let slots = leaf << (height(m) - depth);
-        for (range, part) in (1 << depth..2 << depth).zip(store.slots.chunks(slots)) {
-            let n = part.iter().filter(|&&slot| slot != 0).count();
-            counted.counts[Order::Tree.place(range, m)] = n as u16;
-        }
-    }
-    laid_out_again(&counted).filter(|sheet| sheet.slots == store.slots)
-}
-
-/// The one sheet with the slots and the M of a store.
-fn sheet_of_slots(store: &Plain) -> Option<Plain> {
-    let counted = counted(store);
-    if m(store) <= SEARCHED {
-        let all = searched(store);
-        assert!(all.len() <= 1, "M {}", m(store));
-        assert!(all.first() == counted.as_ref(), "M {}", m(store));
-    }
-    counted
-}
-
-/// 02, F-1, F-3 and F-11: the entries rise strictly and are not zero, both without
-/// bits 63 and 62.
-fn rises(list: &[u64]) -> bool {
-    let keys: Vec<u64> = [0].iter().chain(list).map(|e| e << 2 >> 2).collect();
-    keys.windows(2).all(|pair| pair[0] < pair[1])
-}
-
-/// The store is mended to the sheet with its slots and its M, or refused where there
-/// is none; a timed store also where the list does not rise. Whether the plain store
-/// was mended.
-fn as_searched(store: &Store) -> bool {
-    let plain = sheet_of_slots(&store.plain);
-    let rising = plain.clone().filter(|_| rises(&entries(&store.plain)));
-    let timed = rising.map(with_third_slice);
-    comes_to(store, plain.as_ref(), timed.as_ref());
-    plain.is_some()
-}
-
-/// How many stores were mended, and how many refused.
-#[derive(Debug, Default)]
-struct Met {
-    mended: usize,
-    refused: usize,
-}
-
-impl Met {
-    fn note(&mut self, mended: bool) {
-        self.mended += usize::from(mended);
-        self.refused += usize::from(!mended);
-    }
-
-    /// Both at least so often.
-    fn assert_met(&self, mended: usize, refused: usize) {
-        let enough = self.mended >= mended && self.refused >= refused;
-        assert!(enough, "{self:?}");
-    }
-}
-
-/// What mending may write.
-fn numbers(store: &mut Store) -> Numbers<'_> {
-    let Store { plain, balance } = store;
-    Numbers {
-        counts: &mut plain.counts[..],
-        tallies: &mut plain.tallies[..],
-        balance: &mut balance[..],
-    }
-}
-
-/// The store with all that random.
-fn spoiled(store: &Store, random: &mut SplitMix64) -> Store {
-    let mut store = store.clone();
-    numbers(&mut store).fill(|| random.next_u64());
-    store
 }
 
 /// A store with these slots and this M, all else spoiled.
@@ -286,7 +144,7 @@ fn every_sheet_of_some_sizes() {
     let mut random = SplitMix64::new(135);
     for m in (0..=64).chain([65, 66, 84, 85, 111, 112, 127, 128, 129]) {
         for n in (0..=m).filter(|&n| allows(m, n)).step_by(1 + m / 20) {
-            let trees = all_sheets(&vec![7; n], m, Some);
+            let trees = all_sheets::<u16, _>(&vec![7; n], m, Some);
             let mut slots: Vec<_> = trees.iter().map(|sheet| &sheet.slots[..]).collect();
             slots.sort_unstable();
             assert!(slots.windows(2).all(|two| two[0] != two[1]), "N {n} M {m}");
@@ -347,31 +205,6 @@ fn every_small_change_of_slots() {
         }
     }
     met.assert_met(100, 1000);
-}
-
-/// The leaf holds these entries, by the leaf rule.
-fn spread(leaf: &mut [u64], list: &[u64]) {
-    let (n, s) = (list.len(), leaf.len());
-    leaf.fill(0);
-    for (k, &entry) in list.iter().enumerate() {
-        leaf[leaf_slot(k, n, s)] = entry;
-    }
-}
-
-/// Moves the last entry of a leaf to the front of the next one, or the first of that
-/// one to the end of this one: the list stays, and each leaf is spread by its number.
-fn move_between_leaves(store: &mut Plain, leaf: usize, on: bool) {
-    let s = leaf_slots(m(store));
-    let (one, other) = store.slots[leaf * s..(leaf + 2) * s].split_at_mut(s);
-    let held = |leaf: &[u64]| leaf.iter().copied().filter(|&e| e != 0).collect();
-    let (mut left, mut right): (Vec<u64>, Vec<u64>) = (held(one), held(other));
-    if on {
-        right.insert(0, left.pop().unwrap());
-    } else {
-        left.push(right.remove(0));
-    }
-    spread(one, &left);
-    spread(other, &right);
 }
 
 /// Whether such a store is a sheet depends on the candidates alone: it is mended to

@@ -168,7 +168,7 @@ fn sums_of_all_groups() {
             let list = tens(n, ties, retired, &mut random);
             let store = lay_out_timed(&list, n, |_, _, c| random.below(c));
             let places = places(&store);
-            let boats = usize::from(scoring(&list));
+            let boats = scoring(&list);
             let mut firsts: Vec<_> = places.iter().filter(|of| of[0] > 0).collect();
             assert_eq!(firsts.len(), boats);
             firsts.dedup();
@@ -245,7 +245,7 @@ fn tallies_are_zeroed_with_the_tree() {
     assert_ne!(store.tallies[2..16], [0; 14]);
     let answer = delete(&mut store, 0, &[30]);
     assert_eq!(answer, Answer::Changed { n: 33, words: 1 });
-    assert_eq!((m(&store), *store.tallies), (64, tallies(&[17])));
+    assert_eq!((m(&store), &*store.tallies), (64, &tallies(&[17])[..]));
     let mut random = SplitMix64::new(103);
     while n(&store) > 0 {
         assert_eq!(delete(&mut store, 0, &words(&mut random, 64)).number(), 0);
@@ -323,8 +323,8 @@ fn other_tallies() {
         for m in [n, 2 * n - 1] {
             let list = tens(n, 8, 4, &mut random);
             let sound = lay_out_timed(&list, m, |_, _, c| random.below(c));
-            let right = *sound.plain.tallies;
-            let counts = *sound.plain.counts;
+            let right: [u16; TALLIES] = (*sound.plain.tallies).try_into().unwrap();
+            let counts: [u16; TALLIES] = (*sound.plain.counts).try_into().unwrap();
             let mut with_m = right;
             with_m[0] = m as u16;
             let (mut bare_counts, mut retired) = (counts, counts);
@@ -346,13 +346,13 @@ fn other_tallies() {
                 retired,
                 with_m,
                 in_number_order,
-                *of_another,
-                *of_another_size,
+                (*of_another).try_into().unwrap(),
+                (*of_another_size).try_into().unwrap(),
             ];
             for tallies in wrong {
                 assert_ne!(tallies, right, "N {n} M {m}");
                 let mut store = sound.clone();
-                *store.plain.tallies = tallies;
+                store.plain.tallies = tallies.into();
                 refuse(&store);
             }
         }

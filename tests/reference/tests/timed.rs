@@ -4,12 +4,13 @@
 
 mod common;
 
+use common::all_calls::all_timed_calls;
 use common::*;
 use reference::calls::{Answer, Cause};
 use reference::layout::{COUNTS, SLOTS, TALLIES};
 use reference::places::{RETIRED, TIED};
 use reference::random::SplitMix64;
-use reference::timed::{self, balance_entries, BALANCE};
+use reference::timed::{balance_entries, BALANCE};
 use reference::timed_shares::Store;
 
 const LENGTHS: [usize; 11] = [0, 1, 2, 5, 33, 40, 64, 65, 100, 700, 1024];
@@ -29,46 +30,16 @@ fn sheet_of_tens(n: usize, random: &mut SplitMix64) -> Store {
 }
 
 /// The third slice with these words from number 1 on and zeros elsewhere.
-fn third_slice(words: &[u64]) -> [u64; BALANCE] {
+fn third_slice(words: &[u64]) -> Box<[u64]> {
     let mut balance = [0; BALANCE];
     balance[1..=words.len()].copy_from_slice(words);
-    balance
+    balance.into()
 }
 
-/// What eight calls return on these slices with these arguments: insert,
-/// delete, find, read, board, place, check, clear. Only clear may change them.
-fn all_calls(
-    (slots, counts, tallies, balance): (&mut [u64], &mut [u16], &mut [u16], &mut [u64]),
-    rank: usize,
-    entry: u64,
-) -> [u8; 8] {
-    let before = (slots.to_vec(), counts.to_vec());
-    let then = (tallies.to_vec(), balance.to_vec());
-    let (last, ranks, mut output) = (rank + 5, [rank as u64, 0], [0x55; 2]);
-    let answers = [
-        timed::insert(slots, counts, tallies, balance, entry, &[]),
-        timed::delete(slots, counts, tallies, balance, rank, &[]),
-        timed::find(slots, counts, tallies, balance, entry),
-        timed::read(slots, counts, tallies, balance, rank, last, &mut output),
-        timed::board(slots, counts, tallies, balance, &ranks, &mut output),
-        timed::place(slots, counts, tallies, balance, rank),
-        timed::check(slots, counts, tallies, balance),
-    ];
-    assert!(before == (slots.to_vec(), counts.to_vec()));
-    assert!(then == (tallies.to_vec(), balance.to_vec()));
-    assert_eq!(output, [0x55; 2]);
-    let clear = timed::clear(slots, counts, tallies, balance);
-    for answer in answers.into_iter().chain([clear]) {
-        assert!(answer.number() == 0 || answer.values() == [0, 0, 0]);
-    }
-    let [a, b, c, d, e, f, g] = answers.map(Answer::number);
-    [a, b, c, d, e, f, g, clear.number()]
-}
-
-/// The same on a copy of a store, with rank 0 and entry 5.
+/// What eight calls return on a copy of a store, with rank 0 and entry 5.
 fn on_store(store: &Store) -> [u8; 8] {
     let mut store = store.clone();
-    let numbers = all_calls(slices_of(&mut store), 0, 5);
+    let numbers = all_timed_calls(slices_of(&mut store), 0, 5);
     assert!(store == Store::cleared());
     numbers
 }
@@ -83,14 +54,14 @@ fn slices_of(store: &mut Store) -> (&mut [u64], &mut [u16], &mut [u16], &mut [u6
 #[test]
 fn third_slice_of_one_range() {
     let mut store = lay_out_timed(&[10, 20, 30], 5, |_, _, _| 0);
-    assert_eq!(*store.balance, third_slice(&[]));
+    assert_eq!(store.balance, third_slice(&[]));
     assert_eq!(timed_check(&store), Answer::Checked { n: 3 });
     // Face 1 of the draw among 4 keeps M = 5.
     let answer = timed_insert(&mut store, 25, &[1]);
     assert_eq!(answer, Answer::Changed { n: 4, words: 1 });
     // Slots 5/8, 15/8, 25/8 and 35/8.
     assert_eq!(store.plain.slots[..6], [10, 20, 0, 25, 30, 0]);
-    assert_eq!(*store.balance, third_slice(&[]));
+    assert_eq!(store.balance, third_slice(&[]));
 }
 
 /// 34 entries and M = 65, of height 3: halves of 16 and 18, quarters of 7, 9, 9
@@ -107,12 +78,12 @@ const OF_34: [u64; 7] = [170, 80, 260, 40, 120, 210, 300];
 fn third_slice_of_size_65() {
     let store = sheet_of_34();
     let (slots, counts) = (&store.plain.slots[..], &store.plain.counts[..]);
-    let expected = Ok(third_slice(&OF_34));
+    let expected = Ok(third_slice(&OF_34).into_vec());
     assert_eq!(
         balance_entries(slots, counts, &store.plain.tallies[..]),
         expected
     );
-    assert_eq!(*store.balance, third_slice(&OF_34));
+    assert_eq!(store.balance, third_slice(&OF_34));
     assert_eq!(timed_check(&store), Answer::Checked { n: 34 });
 }
 
@@ -121,7 +92,7 @@ fn third_slice_of_size_65() {
 #[test]
 fn third_slice_is_not_in_tree_order() {
     let mut store = sheet_of_34();
-    *store.balance = third_slice(&[170, 80, 260, 40, 0, 0, 120, 0, 0, 210, 0, 0, 300]);
+    store.balance = third_slice(&[170, 80, 260, 40, 0, 0, 120, 0, 0, 210, 0, 0, 300]);
     assert_eq!(timed_check(&store), Answer::Refused(Cause::NotTimed));
 }
 
@@ -133,7 +104,7 @@ fn third_slice_after_an_insert() {
     let answer = timed_insert(&mut store, 5, &[1]);
     assert_eq!(answer, Answer::Changed { n: 35, words: 1 });
     let expected = third_slice(&[170, 80, 260, 30, 120, 210, 300]);
-    assert_eq!(*store.balance, expected);
+    assert_eq!(store.balance, expected);
 }
 
 /// The last entry goes: range 7 has 8 entries, and its one candidate is the entry
@@ -144,17 +115,17 @@ fn third_slice_after_a_delete() {
     let answer = timed_delete(&mut store, 33, &[]);
     assert_eq!(answer, Answer::Changed { n: 33, words: 0 });
     let expected = third_slice(&[170, 80, 260, 40, 120, 210, 290]);
-    assert_eq!(*store.balance, expected);
+    assert_eq!(store.balance, expected);
 }
 
 /// Back to one range: M = 64 by face 0 of the draw among 66, and all zero.
 #[test]
 fn third_slice_is_zeroed_with_the_tree() {
     let mut store = lay_out_timed(&tens(34), 67, |_, _, _| 0);
-    assert_ne!(*store.balance, third_slice(&[]));
+    assert_ne!(store.balance, third_slice(&[]));
     let answer = timed_delete(&mut store, 0, &[30]);
     assert_eq!(answer, Answer::Changed { n: 33, words: 1 });
-    assert_eq!((m(&store.plain), *store.balance), (64, third_slice(&[])));
+    assert_eq!((m(&store.plain), store.balance), (64, third_slice(&[])));
 }
 
 /// Each entry, what lies between two, and both ends.
@@ -274,7 +245,7 @@ fn cause_1_lengths() {
                 &mut tallies[..],
                 &mut balance[..],
             );
-            assert_eq!(all_calls(slices, 9, 0), [1; 8]);
+            assert_eq!(all_timed_calls(slices, 9, 0), [1; 8]);
             assert!((slots, counts, tallies, balance) == before);
         }
     }
@@ -353,7 +324,7 @@ fn cause_11_where_the_third_slice_is_wrong() {
 fn cause_11_before_3() {
     let mut store = sheet_of_34();
     store.balance[0] = 1;
-    let numbers = all_calls(slices_of(&mut store), 99, 0);
+    let numbers = all_timed_calls(slices_of(&mut store), 99, 0);
     assert_eq!(numbers, REFUSED_11);
 }
 

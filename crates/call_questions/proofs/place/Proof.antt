@@ -9,22 +9,16 @@ use Rattle.call_open.specs.declared.Opened.the-variants as opened
 use Rattle.call_open.specs.AdmittedLaws.{found-sheet, found-free}
 use Rattle.call_questions.specs.AnswerLaws.{asked-refused}
 use Rattle.call_questions.specs.StartLaws.{entries-number}
-use Rattle.call_questions.specs.TalliedLaws.{tallies-room, read-by-number}
+use Rattle.call_questions.specs.TalliedLaws.{by-number}
 use Rattle.call_questions.specs.PlaceLaws.{place-reply}
 use Rattle.call_questions.proofs.place.Statement.{statement}
 use Rattle.call_questions.proofs.place.Tie as tie
 
 -- The place is answered, on a plain sheet with an entry at this rank.
 goes-on : (c : tie.After-m)
-    → let a = c .before .before .before .before .before .before .before .args in
+    → let a = c .before .before .before .before .before .before .args in
     admitted (questionCause (placeOf (a .rank))) (a .opened) ≡ opened.Sheet (c .m .given .0 .0) (c .m .given .0 .1 .0)
 goes-on c = sym (c .before .before .admit-rank .ensures) ∙ c .m .given .1
-
--- The store was found to be a sheet.
-found : (c : tie.After-m)
-    → let a = c .before .before .before .before .before .before .before .args in
-    a .opened ≡ opened.Sheet (c .m .given .0 .0) (c .m .given .0 .1 .0)
-found c = found-sheet _ _ (goes-on c)
 
 admit-rank-requires : tie.Need-admit-rank-requires
 admit-rank-requires c κs = search needs
@@ -32,32 +26,19 @@ admit-rank-requires c κs = search needs
 enum-known-m : tie.Need-enum-known-m
 enum-known-m c = search needs
 
-read-counts-requires : tie.Need-read-counts-requires
-read-counts-requires c κs =
-    let e = c .before .before in
-    let s = e .before .before .before .before .before .before .before in
-    (s .pre .1 _ _ (found e), tallies-room (s .pre .0) (found e))
-
 placing-of-requires : tie.Need-placing-of-requires
 placing-of-requires c κs =
-    let r = c .before .before .before in
-    let e = r .before .before .before in
-    let s = e .before .before .before .before .before .before .before in
-    let within = place-within (s .args .rank) _ (found-free _ _ (goes-on e)) in (
-      read-by-number (s .pre .0) (found e) (r .read-counts .ensures),
-      omega (arith, within, entries-number (s .pre .0 .readable .sheet _ _ (found e))),
-    )
+    let e = c .before in
+    let s = e .before .before .before .before .before .before in
+    let found = found-sheet _ _ (goes-on e) in
+    let within = place-within (s .args .rank) _ (found-free _ _ (goes-on e)) in
+    (by-number (s .pre) found, omega (arith, within, entries-number (s .pre .readable .sheet _ _ found)))
 
 enum-known-cause : tie.Need-enum-known-cause
 enum-known-cause c = search needs
 
-same-length : tie.Need-same-length
-same-length c = search needs
-
 returns : tie.Need-returns
-returns c =
-    let e = c .before .before .before .before .before .before .before in
-    place-reply _ _ _ (goes-on e) (c .placing-of .ensures)
+returns c = place-reply _ _ _ (goes-on (c .before .before)) (c .placing-of .ensures)
 
 returns-2 : tie.Need-returns-2
 returns-2 c =
@@ -70,9 +51,7 @@ place-spec =
     (tie.spec
     admit-rank-requires
     enum-known-m
-    read-counts-requires
     placing-of-requires
     enum-known-cause
-    same-length
     returns
     returns-2)

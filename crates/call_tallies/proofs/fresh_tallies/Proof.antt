@@ -1,6 +1,6 @@
 -- `fresh_tallies` meets its contract.
-use mathlib.Core.Path.{_≡_, _∙_, ap}
-use Prim.Native.Nat.{_+_, _-_, _*_, _^_}
+use mathlib.Core.Path.{_≡_, sym, _∙_, ap}
+use Prim.Native.Nat.{ℕ, _+_, _-_, _*_, _^_}
 use native.Mathlib.Omega.{arith}
 use denote.Ref.{now}
 use lib.ListN.{length, length-replicate}
@@ -8,7 +8,9 @@ use lib.Pow.{pow-pos}
 use Rattle.base.specs.ListLaws.{replicate-at}
 use Rattle.tree_sizes.specs.Sizes.{height}
 use Rattle.tree_sizes.specs.SizeLaws.{height-most}
+use Rattle.store_order.specs.CountOrder.{countOrder}
 use Rattle.store_scoring.specs.Scoring.{tally}
+use Rattle.store_sums.specs.LaidLaws.{numbers-only}
 use Rattle.store_sums.specs.KeptLaws.{numbers-none}
 use borrow.Author.Needs.{needs}
 use Rattle.call_tallies.proofs.fresh_tallies.Statement.{statement}
@@ -18,6 +20,13 @@ use Rattle.call_tallies.proofs.fresh_tallies.Tie as tie
 leaves : (c : tie.After-power) → c .power .result ≡ 2 ^ height (c .before .before .before .before .before .before .args .size .m)
 leaves c = c .power .ensures ∙ rw (c .before .height .ensures)
 
+-- There are as many numbers as tallies.
+many : (c : tie.After-update-tallies) → length (c .update-tallies .last .1 .1 .1 .1 .1 .0) ≡ length (now (c .before .before .before .before .before .before .before .before .args .tallies))
+many c =
+    let s = c .before .before .before .before .before .before .before .before in
+    let same : length (c .update-tallies .last .1 .1 .1 .1 .1 .0) ≡ length (now (s .args .numbers)) = search needs in
+    same ∙ ap length (s .pre .1 .1) ∙ length-replicate (length (now (s .args .tallies))) 0
+
 height-requires : tie.Need-height-requires
 height-requires c κs = search needs
 
@@ -26,33 +35,46 @@ power-requires c κs =
     let s = c .before .before .before .before .before in
     omega (arith, c .height .ensures, height-most (s .args .size .m) 32 (omega arith) (omega (arith, s .pre .0 .most)))
 
-mul-put-updated : tie.Need-mul-put-updated
-mul-put-updated c = omega (arith, leaves c, c .before .before .before .before .before .before .pre .0 .ranges-room)
+mul-update-tallies : tie.Need-mul-update-tallies
+mul-update-tallies c = omega (arith, leaves c, c .before .before .before .before .before .before .pre .0 .ranges-room)
 
-sub-put-updated : tie.Need-sub-put-updated
-sub-put-updated c = omega (arith, leaves c, pow-pos (height (c .before .before .before .before .before .before .args .size .m)))
+sub-update-tallies : tie.Need-sub-update-tallies
+sub-update-tallies c = omega (arith, leaves c, pow-pos (height (c .before .before .before .before .before .before .args .size .m)))
 
-put-updated-requires : tie.Need-put-updated-requires
-put-updated-requires c κs =
-    let w = c .before .before in
+update-tallies-requires : tie.Need-update-tallies-requires
+update-tallies-requires c κs =
+    let w = c .before in
     let s = w .before .before .before .before .before .before in
     let n = w .power .result in
     let some = pow-pos (height (s .args .size .m)) in
     let end : 2 * n - 1 + 1 ≡ 2 * 2 ^ height (s .args .size .m) = omega (arith, leaves w, some) in
-    let ready = s .pre .0 in (
-      ready,
+    let room = length (now (s .args .tallies)) in
+    let ready = s .pre .0 in
+    let counted = s .pre .1 .0 in (
+      ready .most,
       (
-        ap length (s .pre .1 .1) ∙ length-replicate (length (now (s .args .tallies))) 0,
+        ready .slots-room,
         (
-          (omega (arith, leaves w), omega (arith, leaves w, some), omega (arith, leaves w, some)),
+          rw (s .pre .1 .1, length-replicate {A = ℕ} room 0) (ready .ranges-room),
           (
-            s .pre .1 .0,
-            rw (end, leaves w, s .pre .1 .1)
-                (numbers-none tally 0 (s .args .size .m) (now (s .args .slots)) _ (replicate-at 0 (length (now (s .args .tallies))) 0) (λ k h. replicate-at 0 (length (now (s .args .tallies))) k)),
+            (omega (arith, leaves w), omega (arith, leaves w, some), omega (arith, leaves w, some)),
+            (
+              omega (arith, leaves w, some, counted .room),
+              (
+                λ k from before. counted .counted k (omega (arith, leaves w)) (omega (arith, leaves w, some)),
+                rw (end, leaves w, s .pre .1 .1)
+                    (numbers-none tally 0 (s .args .size .m) (now (s .args .slots)) _ (replicate-at 0 room 0) (λ k h. replicate-at 0 room k)),
+              ),
+            ),
           ),
         ),
       ),
     )
+
+write-counts-requires : tie.Need-write-counts-requires
+write-counts-requires c κs =
+    let u = c .before .before .before .before in
+    (sym (many u), omega (arith, many u, u .before .before .before .before .before .before .before .before .pre .0 .ranges-room))
 
 same-length : tie.Need-same-length
 same-length c = search needs
@@ -61,7 +83,11 @@ same-length-2 : tie.Need-same-length-2
 same-length-2 c = search needs
 
 returns : tie.Need-returns
-returns c = c .before .before .before .before .put-updated .ensures
+returns c =
+    let k = c .before .before in
+    let u = k .before .before .before .before .before in
+    let s = u .before .before .before .before .before .before .before .before in
+    λ words found size. k .write-counts .ensures ∙ ap (countOrder (height (s .args .size .m))) (numbers-only _ _ _ _ _ words (u .update-tallies .ensures) found (many u ∙ sym size))
 
 pub fresh-tallies-spec : {M : Type 1} → statement M
 fresh-tallies-spec =
@@ -69,9 +95,10 @@ fresh-tallies-spec =
     (tie.spec
     height-requires
     power-requires
-    mul-put-updated
-    sub-put-updated
-    put-updated-requires
+    mul-update-tallies
+    sub-update-tallies
+    update-tallies-requires
+    write-counts-requires
     same-length
     same-length-2
     returns)

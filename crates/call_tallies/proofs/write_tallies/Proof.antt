@@ -1,74 +1,80 @@
 -- `write_tallies` meets its contract.
-use mathlib.Core.Path.{_≡_, _∙_, ap}
-use Prim.Native.Nat.{_+_, _-_, _*_}
+use mathlib.Core.Path.{_≡_, sym, _∙_, ap}
+use Prim.Native.Nat.{_-_}
 use native.Mathlib.Omega.{arith}
 use denote.Ref.{now}
-use lib.ListN.{length, length-replicate}
-use Rattle.tree_sizes.specs.SizeLaws.{height-most}
-use Rattle.store_part.specs.Region.{leavesOf}
-use Rattle.call_tallies.specs.WriteLaws.{first-least, end-most, leaves-some, start-tallies}
+use lib.ListN.{length}
+use Rattle.tree_sizes.specs.Sizes.{height}
+use Rattle.store_order.specs.CountOrder.{countOrder}
+use Rattle.store_sums.specs.LaidLaws.{numbers-only}
+use Rattle.store_part.specs.LeavesLaws.{part-leaves}
+use Rattle.call_tallies.specs.WriteLaws.{start-tallies, start-length, start-placed}
 use borrow.Author.Needs.{needs}
 use Rattle.call_tallies.proofs.write_tallies.Statement.{statement}
 use Rattle.call_tallies.proofs.write_tallies.Tie as tie
 
--- The number of leaves of the part.
-leaves : (c : tie.After-power) → let s = c .before .before .before .before .before .before .before in c .power .result ≡ leavesOf (s .args .size .m) (s .args .part .depth)
-unfolding leavesOf
-leaves c = c .power .ensures ∙ rw (c .before .before .height .ensures)
+-- There are as many numbers as tallies.
+many : (c : tie.After-update-tallies) → length (c .update-tallies .last .1 .1 .1 .1 .1 .0) ≡ length (now (c .before .before .before .before .before .before .before .before .before .before .before .before .args .tallies))
+many c =
+    let r = c .before .before .before .before in
+    let s = r .before .before .before .before .before .before .before .before in
+    let same : length (c .update-tallies .last .1 .1 .1 .1 .1 .0) ≡ length (r .start-numbers .last .1 .0) = search needs in
+    same ∙ start-length (s .pre .1 .1 .0) (r .start-numbers .ensures) ∙ s .pre .1 .0
 
-height-requires : tie.Need-height-requires
-height-requires c κs = search needs
+first-leaf-requires : tie.Need-first-leaf-requires
+first-leaf-requires c κs =
+    let s = c .before .before .before .before in record { most = omega (arith, s .pre .0 .most); inside = s .pre .1 .1 .0 .inside }
 
-sub-power : tie.Need-sub-power
-sub-power c = search needs
-
-power-requires : tie.Need-power-requires
-power-requires c κs =
-    let s = c .before .before .before .before .before .before in
-    omega (arith, c .before .height .ensures, height-most (s .args .size .m) 32 (omega arith) (omega (arith, s .pre .0 .most)))
-
-mul-first : tie.Need-mul-first
-mul-first c =
-    let s = c .before .before .before .before .before .before .before in
-    rw (leaves c) (omega (arith, end-most (s .pre .1 .0 .inside), s .pre .0 .ranges-room))
+last-leaf-requires : tie.Need-last-leaf-requires
+last-leaf-requires c κs =
+    let s = c .before .before .before .before .before in record { most = omega (arith, s .pre .0 .most); inside = s .pre .1 .1 .0 .inside }
 
 start-numbers-requires : tie.Need-start-numbers-requires
-start-numbers-requires c κs =
-    let s = c .before .before .before .before .before .before .before .before .before in
-    (ap length (s .pre .1 .1 .1) ∙ length-replicate (length (now (s .args .tallies))) 0, s .pre .0 .ranges-room)
+start-numbers-requires c κs = search needs
 
-sub-put-updated : tie.Need-sub-put-updated
-sub-put-updated c =
-    let w = c .before .before .before .before .before in
-    let s = w .before .before .before .before .before .before .before in
-    omega (arith, leaves w, leaves-some (s .args .size .m) (s .args .part .depth))
-
-add-put-updated : tie.Need-add-put-updated
-add-put-updated c =
-    let w = c .before .before .before .before .before in
-    let s = w .before .before .before .before .before .before .before in
-    rw (leaves w) (omega (arith, end-most (s .pre .1 .0 .inside), s .pre .0 .ranges-room, leaves-some (s .args .size .m) (s .args .part .depth)))
-
-put-updated-requires : tie.Need-put-updated-requires
-put-updated-requires c κs =
-    let w = c .before .before .before .before .before .before .before in
-    let s = w .before .before .before .before .before .before .before in
-    let n = w .power .result in
-    let l = leavesOf (s .args .size .m) (s .args .part .depth) in
-    let some = leaves-some (s .args .size .m) (s .args .part .depth) in
+update-tallies-requires : tie.Need-update-tallies-requires
+update-tallies-requires c κs =
+    let r = c .before .before .before in
+    let l = r .before .before in
+    let s = l .before .before .before .before .before .before in
     let ready = s .pre .0 in
-    let inside = s .pre .1 .0 .inside in
-    let r = c .before .before .before .before in
-    let end : s .args .part .range * l + (l - 1) + 1 ≡ s .args .part .range * l + l = omega (arith, some) in
-    let same : length (r .start-numbers .last .1 .1 .1 .0) ≡ length (now (s .args .numbers)) = search needs in (
-      ready,
+    let part = s .pre .1 .1 .0 in
+    let counted = s .pre .1 .1 .1 in
+    let leaves = part-leaves (part .inside) in
+    rw (l .before .first-leaf .ensures, l .last-leaf .ensures) (
+      ready .most,
       (
-        same ∙ ap length (s .pre .1 .1 .1) ∙ length-replicate (length (now (s .args .tallies))) 0,
+        ready .slots-room,
         (
-          rw (leaves w) (first-least inside, omega arith, omega (arith, some, end-most inside)),
+          omega (arith, ready .ranges-room, start-length part (r .start-numbers .ensures), s .pre .1 .0),
           (
-            s .pre .1 .1 .0,
-            rw (leaves w, end) (start-tallies (s .pre .1 .0) (length (now (s .args .tallies))) (rw (s .pre .1 .1 .1) at (r .start-numbers .ensures))),
+            (leaves .from, leaves .order, leaves .before),
+            (
+              omega (arith, leaves .before, counted .room),
+              (λ k from before. counted .counted k (omega (arith, leaves .from)) (omega (arith, leaves .before)), start-tallies part (r .start-numbers .ensures)),
+            ),
+          ),
+        ),
+      ),
+    )
+
+put-numbers-requires : tie.Need-put-numbers-requires
+put-numbers-requires c κs =
+    let u = c .before .before .before .before in
+    let r = u .before .before .before .before in
+    let l = r .before .before in
+    let s = l .before .before .before .before .before .before in
+    let ready = s .pre .0 in
+    let part = s .pre .1 .1 .0 in
+    rw (l .before .first-leaf .ensures, l .last-leaf .ensures) (
+      ready .most,
+      (
+        sym (many u),
+        (
+          omega (arith, many u, ready .ranges-room),
+          (
+            part-leaves (part .inside),
+            λ other. start-placed part (r .start-numbers .ensures) (u .update-tallies .ensures) (s .pre .1 .0 ∙ sym (many u)) (omega (arith, s .pre .1 .0, ready .ranges-room)) other,
           ),
         ),
       ),
@@ -81,20 +87,21 @@ same-length-2 : tie.Need-same-length-2
 same-length-2 c = search needs
 
 returns : tie.Need-returns
-returns c = search needs
+returns c =
+    let k = c .before .before in
+    let u = k .before .before .before .before .before in
+    let s = u .before .before .before .before .before .before .before .before .before .before .before .before in
+    λ words found size. k .put-numbers .ensures ∙ ap (countOrder (height (s .args .size .m))) (numbers-only _ _ _ _ _ words (u .update-tallies .ensures) found (many u ∙ sym size))
 
 pub write-tallies-spec : {M : Type 1} → statement M
 write-tallies-spec =
     tie.close
     (tie.spec
-    height-requires
-    sub-power
-    power-requires
-    mul-first
+    first-leaf-requires
+    last-leaf-requires
     start-numbers-requires
-    sub-put-updated
-    add-put-updated
-    put-updated-requires
+    update-tallies-requires
+    put-numbers-requires
     same-length
     same-length-2
     returns)

@@ -1,7 +1,8 @@
 -- `board` meets its contract.
 use mathlib.Core.Path.{refl}
 use Rattle.call_outcomes.specs.PlainCalls.{boardOf}
-use Rattle.sheet_calls.specs.QuestionLaws.{readable, asked-outcome}
+use Rattle.call_outcomes.specs.ClubsLaws.{clubs-ready}
+use Rattle.sheet_answers.specs.QuestionLaws.{readable, asked-outcome}
 use borrow.Author.Needs.{needs}
 use Rattle.sheet_calls.proofs.board.Statement.{statement}
 use Rattle.sheet_calls.proofs.board.Tie as tie
@@ -16,7 +17,7 @@ slice-aggregate-board : tie.Need-slice-aggregate-board
 slice-aggregate-board c = search needs
 
 board-requires : tie.Need-board-requires
-board-requires c κs = readable (c .before .before .before .examine .ensures)
+board-requires c κs = readable clubs-ready (c .before .before .before .examine .ensures)
 
 same-length : tie.Need-same-length
 same-length c = search needs
@@ -24,8 +25,15 @@ same-length c = search needs
 returns : tie.Need-returns
 returns c =
     let r = c .before .before in
-    let x = r .before .before .before .before in
-    asked-outcome (x .examine .ensures) (boardOf _ _) _ _ _ _ (r .board .ensures)
+    asked-outcome clubs-ready (r .before .before .before .before .examine .ensures) (boardOf _ _) _ _ _ _ (r .board .ensures)
 
 pub board-spec : {M : Type 1} → statement M
-board-spec = tie.close (tie.spec slice-aggregate-examine examine-requires slice-aggregate-board board-requires same-length returns)
+board-spec =
+    tie.close
+    (tie.spec
+    slice-aggregate-examine
+    examine-requires
+    slice-aggregate-board
+    board-requires
+    same-length
+    returns)

@@ -1,7 +1,8 @@
 -- `check` meets its contract.
 use mathlib.Core.Path.{refl}
 use Rattle.call_outcomes.specs.PlainCalls.{countOf, writtenFor}
-use Rattle.sheet_calls.specs.QuestionLaws.{answered-outcome}
+use Rattle.call_outcomes.specs.ClubsLaws.{clubs-ready}
+use Rattle.sheet_answers.specs.QuestionLaws.{answered-outcome}
 use borrow.Author.Needs.{needs}
 use Rattle.sheet_calls.proofs.check.Statement.{statement}
 use Rattle.sheet_calls.proofs.check.Tie as tie
@@ -17,7 +18,7 @@ check-requires c κs = search needs
 
 returns : tie.Need-returns
 unfolding writtenFor
-returns c = answered-outcome (c .before .before .examine .ensures) countOf _ (c .check .ensures) refl _
+returns c = answered-outcome clubs-ready (c .before .before .examine .ensures) countOf _ (c .check .ensures) refl _
 
 pub check-spec : {M : Type 1} → statement M
 check-spec = tie.close (tie.spec slice-aggregate-examine examine-requires check-requires returns)

@@ -4,36 +4,47 @@ use mathlib.Core.Bool.{true}
 use native.Mathlib.Omega.{arith}
 use borrow.Author.Tests.{not-true, not-false}
 use denote.Ref.{now}
+use lib.ListN.{getD}
+use Rattle.call_outcomes.specs.Untallied.{storeOf}
 use Rattle.call_outcomes.specs.Plain.{plainView, PlainLengths, plainStoreOf}
 use Rattle.call_outcomes.specs.PlainLaws.{right-plain}
 use Rattle.call_outcomes.specs.Clubs.{clubs}
-use Rattle.sheet_mend.specs.MendLaws.{mend-lengths, mend-none, mend-made}
+use Rattle.call_outcomes.specs.ClubsLaws.{clubs-ready}
+use Rattle.call_open.specs.Opening.{OpenedSheet}
+use Rattle.sheet_open.specs.LengthLaws.{lengths-tested}
+use Rattle.sheet_recount.specs.MendLaws.{mend-lengths, mend-none, mend-made}
 use borrow.Author.Needs.{needs}
 use Rattle.sheet_mend.proofs.mend.Statement.{statement}
 use Rattle.sheet_mend.proofs.mend.Tie as tie
 
--- The start; and the lengths are right.
-abbrev start : tie.Else1 → tie.Start
-start e = e .before .before .before .before .before .before .before
+-- The lengths are right.
+tested : (c : tie.After-right-lengths) → let a = c .before .before .before .before .before .args in
+    c .right-lengths .result ≡ plainView clubs .rightLengths (plainStoreOf (now (a .slots)) (now (a .counts)) (now (a .tallies)))
+tested c =
+    let a = c .before .before .before .before .before .args in
+    (rw (c .before .capacity .ensures) at (c .right-lengths .ensures)) ∙ lengths-tested clubs (now (a .slots)) (now (a .counts)) (now (a .tallies))
 
-right : (e : tie.Else1)
-    → let a = start e .args in plainView clubs .rightLengths (plainStoreOf (now (a .slots)) (now (a .counts)) (now (a .tallies))) ≡ true
-right e = sym (e .before .lengths-are-right .ensures) ∙ not-false _ (e .if1 .left)
+right : (e : tie.Else1) → let a = e .before .before .before .before .before .before .args in plainView clubs .rightLengths (plainStoreOf (now (a .slots)) (now (a .counts)) (now (a .tallies))) ≡ true
+right e = sym (tested (e .before)) ∙ not-false _ (e .if1 .left)
 
-lengths : (e : tie.Else1) → let a = start e .args in PlainLengths clubs (plainStoreOf (now (a .slots)) (now (a .counts)) (now (a .tallies)))
+lengths : (e : tie.Else1) → let a = e .before .before .before .before .before .before .args in PlainLengths clubs (plainStoreOf (now (a .slots)) (now (a .counts)) (now (a .tallies)))
 lengths e = right-plain clubs _ (right e)
 
-lengths-are-right-requires : tie.Need-lengths-are-right-requires
-lengths-are-right-requires c κs = search needs
+-- The sheet that was found.
+found : (c : tie.After-n) → let r = c .before .before .before .before in
+    let a = r .before .before .before .before .before .before .before .before .before .before .args in
+    OpenedSheet clubs (storeOf (now (a .slots)) (r .recount .last .1 .1 .1 .1 .0)) (c .n .given .0 .0) (c .n .given .0 .1 .0) (r .recount .last .1 .1 .1 .0)
+    × (c .n .given .0 .1 .0 ≡ getD (now (a .counts)) 0 0)
+found c = let r = c .before .before .before .before in (rw (r .before .before .before .before .before .before .capacity .ensures) at (r .recount .ensures)) .found _ _ (c .n .given .1)
 
-same-length : tie.Need-same-length
-same-length c = search needs
+capacity-requires : tie.Need-capacity-requires
+capacity-requires c κs = search needs
 
-same-length-2 : tie.Need-same-length-2
-same-length-2 c = search needs
+right-lengths-requires : tie.Need-right-lengths-requires
+right-lengths-requires c κs = search needs
 
 returns : tie.Need-returns
-returns c = mend-lengths _ _ _ (sym (c .before .lengths-are-right .ensures) ∙ not-true _ (c .if1 .taken))
+returns c = mend-lengths clubs-ready _ _ _ (sym (tested (c .before)) ∙ not-true _ (c .if1 .taken))
 
 slice-read-m : tie.Need-slice-read-m
 slice-read-m c = omega (arith, lengths (c .before) .sheet .counts)
@@ -48,7 +59,7 @@ slice-aggregate-recount-2 : tie.Need-slice-aggregate-recount-2
 slice-aggregate-recount-2 c = search needs
 
 recount-requires : tie.Need-recount-requires
-recount-requires c κs = (lengths (c .before .before .before) .sheet .slots, (refl, refl))
+recount-requires c κs = let e = c .before .before .before in rw (e .before .before .capacity .ensures) (clubs-ready, (lengths e .sheet .slots, (refl, refl)))
 
 enum-known-n : tie.Need-enum-known-n
 enum-known-n c = search needs
@@ -62,46 +73,37 @@ slice-aggregate-put-in-2 c = search needs
 put-in-requires : tie.Need-put-in-requires
 put-in-requires c κs =
     let n = c .before .before .before .before .before in
-    let r = n .before .before .before .before in
-    let l = lengths (r .before .before .before .before) in
-    let found = r .recount .ensures .found _ _ (n .n .given .1) in (found .0, (l .sheet .counts, (l .tallies, sym (found .1))))
+    let l = lengths (n .before .before .before .before .before .before .before .before) in
+    (found n .0, (l .sheet .counts, (l .tallies, sym (found n .1))))
 
 enum-known-cause : tie.Need-enum-known-cause
 enum-known-cause c = search needs
 
-same-length-3 : tie.Need-same-length-3
-same-length-3 c = search needs
+same-length : tie.Need-same-length
+same-length c = search needs
 
-same-length-4 : tie.Need-same-length-4
-same-length-4 c = search needs
+same-length-2 : tie.Need-same-length-2
+same-length-2 c = search needs
 
 returns-2 : tie.Need-returns-2
 returns-2 c =
     let p = c .before .before .before .before in
     let n = p .before .before .before .before .before .before in
-    let r = n .before .before .before .before in
-    let found = r .recount .ensures .found _ _ (n .n .given .1) in
-    mend-made _ _ _ (right (r .before .before .before .before)) (found .0) (found .1) (p .put-in .ensures)
-
-same-length-5 : tie.Need-same-length-5
-same-length-5 c = search needs
-
-same-length-6 : tie.Need-same-length-6
-same-length-6 c = search needs
+    mend-made clubs-ready _ _ _ (right (n .before .before .before .before .before .before .before .before)) (found n .0) (found n .1) (p .put-in .ensures .0) (p .put-in .ensures .1)
 
 returns-3 : tie.Need-returns-3
 returns-3 c =
     let r = c .before .before .before .before .before in
-    let none = r .recount .ensures .none _ (c .before .cause .given .1) in
-    rw (none .0) (mend-none _ _ _ (right (r .before .before .before .before)) (none .1))
+    let e = r .before .before .before .before in
+    let none = (rw (e .before .before .capacity .ensures) at (r .recount .ensures)) .none _ (c .before .cause .given .1) in
+    rw (none .0) (mend-none clubs-ready _ _ _ (right e) (none .1))
 
 pub mend-spec : {M : Type 1} → statement M
 mend-spec =
     tie.close
     (tie.spec
-    lengths-are-right-requires
-    same-length
-    same-length-2
+    capacity-requires
+    right-lengths-requires
     returns
     slice-read-m
     cast-m
@@ -113,9 +115,7 @@ mend-spec =
     slice-aggregate-put-in-2
     put-in-requires
     enum-known-cause
-    same-length-3
-    same-length-4
+    same-length
+    same-length-2
     returns-2
-    same-length-5
-    same-length-6
     returns-3)

@@ -4,8 +4,11 @@ use Prim.Native.Nat.{_^_, _<_}
 use native.Mathlib.Omega.{arith}
 use borrow.Author.Needs.{needs}
 use denote.Ref.{now}
+use lib.ListN.{getD}
 use Rattle.base.specs.Lists.{Every}
 use Rattle.base.specs.ListLaws.{every-from}
+use Rattle.tree_sizes.specs.Sizes.{height}
+use Rattle.store_order.specs.CountOrderLaws.{every-countOrder}
 use Rattle.call_outcomes.specs.Clubs.{clubs}
 use Rattle.call_outcomes.specs.ClubsLaws.{clubs-roomy}
 use Rattle.call_orders.specs.Conversion.{toTree, Convertible}
@@ -26,9 +29,6 @@ cast-m c = omega (arith, c .slice-known2 .given 0)
 returns-2 : tie.Need-returns-2
 returns-2 c = sym (conversion-size clubs toTree _ (c .before .before .if1 .left) (c .if2 .taken))
 
-slice-aggregate-copy-in : tie.Need-slice-aggregate-copy-in
-slice-aggregate-copy-in c = search needs
-
 -- Neither cause refuses the counts, and each has 16 bits.
 convertible : (c : tie.Else2) → Convertible clubs (now (c .before .before .before .before .args .counts))
 convertible c = record { lengths = c .before .before .if1 .left; size = c .if2 .left }
@@ -36,23 +36,44 @@ convertible c = record { lengths = c .before .before .if1 .left; size = c .if2 .
 small : (c : tie.Else2) → Every (λ x. x < 2 ^ 16) (now (c .before .before .before .before .args .counts))
 small c = every-from (λ x. x < 2 ^ 16) 0 (now (c .before .before .before .before .args .counts)) (λ i l. omega (arith, c .before .before .before .slice-known .given i))
 
-copy-in-requires : tie.Need-copy-in-requires
-copy-in-requires c κs = search needs
+slice-aggregate-widen : tie.Need-slice-aggregate-widen
+slice-aggregate-widen c = search needs
+
+widen-requires : tie.Need-widen-requires
+widen-requires c κs = sym (convertible (c .before .before) .lengths)
 
 slice-aggregate-write-counts : tie.Need-slice-aggregate-write-counts
 slice-aggregate-write-counts c = search needs
 
+slice-aggregate-write-counts-2 : tie.Need-slice-aggregate-write-counts-2
+slice-aggregate-write-counts-2 c = search needs
+
 write-counts-requires : tie.Need-write-counts-requires
 write-counts-requires c κs =
-    let e = c .before .before .before .before .before .before in
-    let same = c .before .before .before .copy-in .ensures in
-    (convertible e .lengths ∙ sym (c .before .before .before .copy-in .kept .1 .0), (rw same (small e), rw same (tree-room clubs clubs-roomy _ (convertible e))))
+    let w = c .before .before .before in
+    let e = w .before .before .before in
+    rw (w .widen .ensures) (sym (convertible e .lengths), tree-room clubs clubs-roomy _ (convertible e))
+
+slice-aggregate-narrow : tie.Need-slice-aggregate-narrow
+slice-aggregate-narrow c = search needs
+
+narrow-requires : tie.Need-narrow-requires
+narrow-requires c κs =
+    let t = c .before .before .before in
+    let w = t .before .before .before .before in
+    let e = w .before .before .before in
+    let counts = now (e .before .before .before .before .args .counts) in
+    (convertible e .lengths ∙ sym (t .write-counts .kept .1 .1 .0), rw (t .write-counts .ensures, w .widen .ensures) (every-countOrder (height (getD counts 0 0)) counts (λ x. x < 2 ^ 16) (small e) (omega arith)))
 
 same-length : tie.Need-same-length
 same-length c = search needs
 
 returns-3 : tie.Need-returns-3
-returns-3 c = tree-order-done (convertible (c .before .before .before .before .before .before .before .before .before)) (c .before .before .before .before .before .before .copy-in .ensures) (c .before .before .write-counts .ensures)
+returns-3 c =
+    let n = c .before .before in
+    let t = n .before .before .before .before in
+    let w = t .before .before .before .before in
+    tree-order-done (convertible (w .before .before .before)) (n .narrow .ensures ∙ t .write-counts .ensures ∙ rw (w .widen .ensures))
 
 pub to-tree-order-spec : {M : Type 1} → statement M
 to-tree-order-spec =
@@ -62,9 +83,12 @@ to-tree-order-spec =
     slice-read-m
     cast-m
     returns-2
-    slice-aggregate-copy-in
-    copy-in-requires
+    slice-aggregate-widen
+    widen-requires
     slice-aggregate-write-counts
+    slice-aggregate-write-counts-2
     write-counts-requires
+    slice-aggregate-narrow
+    narrow-requires
     same-length
     returns-3)

@@ -26,8 +26,8 @@ add-levels c = omega (arith, below c)
 power-requires : tie.Need-power-requires
 power-requires c κs = below c
 
-read-rest-requires : tie.Need-read-rest-requires
-read-rest-requires c κs = (
+copy-rest-requires : tie.Need-copy-rest-requires
+copy-rest-requires c κs = (
   c .before .before .before .before .before .pre .0,
   (rw (c .before .power .ensures) (pow-pos _), rw (c .before .power .ensures) (room (c .before .before))),
 )
@@ -35,11 +35,11 @@ read-rest-requires c κs = (
 read-table-requires : tie.Need-read-table-requires
 read-table-requires c κs =
     let inside = rw (c .before .if1 .taken) at (room (c .before .before .before .before .before .before .before)) in
-    (inside, rw (c .before .before .before .before .read-rest .ensures .same-length) inside)
+    (inside, rw (c .before .before .before .before .copy-rest .ensures .same-length) inside)
 
 read-tree-requires : tie.Need-read-tree-requires
 read-tree-requires c κs =
-    let rest = c .before .before .before .before .read-rest .ensures in
+    let rest = c .before .before .before .before .copy-rest .ensures in
     whole-ready _ (rw (c .before .before .before .before .before .before .before .height .ensures) (c .before .before .before .before .before .before .before .before .before .before .pre .1)) (rest .same-length) (omega arith)
 
 same-length : tie.Need-same-length
@@ -48,7 +48,7 @@ same-length c = search needs
 returns : tie.Need-returns
 returns c =
     rw (← c .before .before .before .before .before .before .before .before .before .before .height .ensures)
-    (table-read _ (c .before .before .before .before .before .before .before .before .before .power .ensures) (c .before .before .before .before .before .before .before .read-rest .ensures) (c .before .before .before .before .if1 .taken) (c .before .before .read-table .ensures))
+    (table-read _ (c .before .before .before .before .before .before .before .before .before .power .ensures) (c .before .before .before .before .before .before .before .copy-rest .ensures) (c .before .before .before .before .if1 .taken) (c .before .before .read-table .ensures))
 
 same-length-2 : tie.Need-same-length-2
 same-length-2 c = search needs
@@ -56,7 +56,7 @@ same-length-2 c = search needs
 returns-2 : tie.Need-returns-2
 returns-2 c =
     rw (← c .before .before .before .before .before .before .before .before .before .before .height .ensures)
-    (numbers-read _ (c .before .before .before .before .before .before .before .before .before .power .ensures) (c .before .before .before .before .before .before .before .read-rest .ensures) (c .before .before .read-tree .ensures))
+    (numbers-read _ (c .before .before .before .before .before .before .before .before .before .power .ensures) (c .before .before .before .before .before .before .before .copy-rest .ensures) (c .before .before .read-tree .ensures))
 
 pub read-counts-spec : {M : Type 1} → statement M
 read-counts-spec =
@@ -65,7 +65,7 @@ read-counts-spec =
     height-requires
     add-levels
     power-requires
-    read-rest-requires
+    copy-rest-requires
     read-table-requires
     read-tree-requires
     same-length

@@ -34,20 +34,17 @@ inside c = table-inside (c .before .before .places-of-eight-levels .ensures) (c 
 cast-place : tie.Need-cast-place Inv-loop μ-loop
 cast-place c = omega (arith, inside c)
 
-mul-count : tie.Need-mul-count Inv-loop μ-loop
-mul-count c = omega (arith, inside c)
+mul-work : tie.Need-mul-work Inv-loop μ-loop
+mul-work c = omega (arith, inside c)
 
-shared-slice-read-count : tie.Need-shared-slice-read-count Inv-loop μ-loop
-shared-slice-read-count c = omega (arith, inside (c .before))
-
-cast-work : tie.Need-cast-work Inv-loop μ-loop
-cast-work c = omega (arith, c .shared-slice-known2 .given (getD (c .before .before .before .places-of-eight-levels .result) (c .before .before .loop .i) 0))
+shared-slice-read-work : tie.Need-shared-slice-read-work Inv-loop μ-loop
+shared-slice-read-work c = omega (arith, inside (c .before))
 
 add-work : tie.Need-add-work Inv-loop μ-loop
 add-work c = search needs
 
-mul-work : tie.Need-mul-work Inv-loop μ-loop
-mul-work c = search needs
+mul-work-2 : tie.Need-mul-work-2 Inv-loop μ-loop
+mul-work-2 c = search needs
 
 slice-write-work : tie.Need-slice-write-work Inv-loop μ-loop
 slice-write-work c = search needs
@@ -85,11 +82,10 @@ read-table-spec =
     loop-holds
     array-read-place
     cast-place
-    mul-count
-    shared-slice-read-count
-    cast-work
-    add-work
     mul-work
+    shared-slice-read-work
+    add-work
+    mul-work-2
     slice-write-work
     add-i
     loop-less

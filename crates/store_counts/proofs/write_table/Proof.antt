@@ -1,11 +1,9 @@
 -- `write_table` meets its contract. The loop's invariant: the counts of the first i ranges are copied.
 use mathlib.Core.Path.{_≡_, refl}
-use Prim.Native.Nat.{_+_, _-_, _^_, _≤_, _<_}
+use Prim.Native.Nat.{_-_, _≤_, _<_}
 use native.Mathlib.Omega.{arith}
 use borrow.Author.Needs.{needs}
-use denote.Ref.{now}
 use lib.ListN.{length, getD, length-set}
-use Rattle.base.specs.ListLaws.{every-getD}
 use Rattle.store_order.specs.Copied.{putTo}
 use Rattle.store_order.specs.Places.{placesFrom}
 use Rattle.store_order.specs.PlacesLaws.{places-none-to, places-next-to}
@@ -36,22 +34,17 @@ inside c = table-inside (c .before .before .places-of-eight-levels .ensures) (c 
 cast-place : tie.Need-cast-place Inv-loop μ-loop
 cast-place c = omega (arith, inside c)
 
-add-count : tie.Need-add-count Inv-loop μ-loop
-add-count c = search needs
-
-mul-count : tie.Need-mul-count Inv-loop μ-loop
-mul-count c = search needs
-
-shared-slice-read-count : tie.Need-shared-slice-read-count Inv-loop μ-loop
-shared-slice-read-count c = search needs
-
-cast-counts : tie.Need-cast-counts Inv-loop μ-loop
-cast-counts c =
-    let a = c .before .before .before .before .before .before in
-    omega (arith, every-getD (λ x. x < 2 ^ 16) (now (a .args .work)) (c .before .before .loop .i + 1) 0 (a .pre .1 .1) (omega arith))
+add-counts : tie.Need-add-counts Inv-loop μ-loop
+add-counts c = search needs
 
 mul-counts : tie.Need-mul-counts Inv-loop μ-loop
-mul-counts c = omega (arith, inside (c .before))
+mul-counts c = search needs
+
+shared-slice-read-counts : tie.Need-shared-slice-read-counts Inv-loop μ-loop
+shared-slice-read-counts c = search needs
+
+mul-counts-2 : tie.Need-mul-counts-2 Inv-loop μ-loop
+mul-counts-2 c = omega (arith, inside (c .before))
 
 slice-write-counts : tie.Need-slice-write-counts Inv-loop μ-loop
 slice-write-counts c = omega (arith, inside (c .before), c .before .before .loop .inv .1)
@@ -89,11 +82,10 @@ write-table-spec =
     loop-holds
     array-read-place
     cast-place
-    add-count
-    mul-count
-    shared-slice-read-count
-    cast-counts
+    add-counts
     mul-counts
+    shared-slice-read-counts
+    mul-counts-2
     slice-write-counts
     add-i
     loop-less

@@ -1,8 +1,7 @@
 -- `position_step` meets its contract.
-use mathlib.Core.Path.{_≡_, ap, _∙_}
-use Prim.Native.Nat.{ℕ, _*_}
+use mathlib.Core.Path.{ap, _∙_}
+use Prim.Native.Nat.{_*_}
 use native.Mathlib.Nat.{mod-le}
-use native.Mathlib.Omega.{arith}
 use borrow.Author.Needs.{needs}
 use Rattle.store_layout.specs.declared.Quotient.{Quotient}
 use Rattle.store_layout.specs.Quotient.{divided}

@@ -69,8 +69,8 @@ leaves-have-masks-requires-5 c κs =
 returns-5 : tie.Need-returns-5
 returns-5 c = rw (c .before .before .before .if5 .taken) (c .leaves-have-masks5 .ensures)
 
-leaves-one-by-one-requires : tie.Need-leaves-one-by-one-requires
-leaves-one-by-one-requires c κs = search needs
+other-leaves-are-spread-requires : tie.Need-other-leaves-are-spread-requires
+other-leaves-are-spread-requires c κs = search needs
 
 returns-6 : tie.Need-returns-6
 returns-6 c = search needs
@@ -99,5 +99,5 @@ leaves-are-spread-spec =
     slice-aggregate-leaves-have-masks-5
     leaves-have-masks-requires-5
     returns-5
-    leaves-one-by-one-requires
+    other-leaves-are-spread-requires
     returns-6)

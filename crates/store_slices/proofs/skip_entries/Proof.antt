@@ -1,7 +1,7 @@
 -- `skip_entries` meets its contract. The loop's invariant: of the entries from `start` on, those behind the first `seen` are those of the slots
 -- from `at` on, which is not before `start`.
 use mathlib.Core.Path.{_≡_, refl, ap, _∙_}
-use Prim.Native.Nat.{ℕ, _-_, _≤_, _<_}
+use Prim.Native.Nat.{ℕ, _-_, _≤_}
 use native.Mathlib.Omega.{arith}
 use borrow.Author.Needs.{needs}
 use denote.Ref.{now}

@@ -1,6 +1,6 @@
 -- `entry_in` meets its contract.
-use mathlib.Core.Path.{_≡_, sym, ap}
-use mathlib.Core.List.{List, []}
+use mathlib.Core.Path.{sym, ap}
+use mathlib.Core.List.{[]}
 use native.Mathlib.Omega.{arith}
 use lib.ListN.{length}
 use Rattle.store_layout.specs.Leaf.{nonzero}

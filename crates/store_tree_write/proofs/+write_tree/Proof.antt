@@ -47,7 +47,7 @@ module _ (t : ℕ) where
   many e = omega (arith, e .if1 .left)
 
   small-requires : lts.Need-write-small-requires (claims t) (entry t) reads.Post Inv-loop μ-loop
-  small-requires c κs = (c .before .before .before .before .pre .1 .0, (c .before .if1 .taken, c .before .before .before .before .pre .1 .1))
+  small-requires c κs = (c .before .before .before .before .pre .1, c .before .if1 .taken)
 
   same-length : lts.Need-same-length (claims t) (entry t) reads.Post Inv-loop μ-loop
   same-length c = search needs
@@ -61,13 +61,13 @@ module _ (t : ℕ) where
   top-requires : lts.Need-write-tree-requires (claims t) (entry t) reads.Post Inv-loop μ-loop
   top-requires c κs =
       let h = halves _ (many (c .before)) in
-      (omega (arith, c .before .before .before .before .pre .0, h .both, h .bottom), (top-ready (c .before .before .before .before .pre .1 .0) (many (c .before)), c .before .before .before .before .pre .1 .1))
+      (omega (arith, c .before .before .before .before .pre .0, h .both, h .bottom), top-ready (c .before .before .before .before .pre .1) (many (c .before)))
 
   power-requires : lts.Need-power-requires (claims t) (entry t) reads.Post Inv-loop μ-loop
-  power-requires c κs = omega (arith, halves _ (many (c .before .before .before .before)) .both, c .before .before .before .before .before .before .before .pre .1 .0 .levels-fit)
+  power-requires c κs = omega (arith, halves _ (many (c .before .before .before .before)) .both, c .before .before .before .before .before .before .before .pre .1 .levels-fit)
 
   power-requires-2 : lts.Need-power-requires-2 (claims t) (entry t) reads.Post Inv-loop μ-loop
-  power-requires-2 c κs = omega (arith, halves _ (many (c .before .before .before .before .before)) .both, c .before .before .before .before .before .before .before .before .pre .1 .0 .levels-fit)
+  power-requires-2 c κs = omega (arith, halves _ (many (c .before .before .before .before .before)) .both, c .before .before .before .before .before .before .before .before .pre .1 .levels-fit)
 
   sub-ranges : lts.Need-sub-ranges (claims t) (entry t) reads.Post Inv-loop μ-loop
   sub-ranges c = rw (c .power2 .ensures) (pow-pos _)
@@ -76,7 +76,7 @@ module _ (t : ℕ) where
   sub-from c = rw (c .before .power .ensures) (pow-pos _)
 
   add-from : lts.Need-add-from (claims t) (entry t) reads.Post Inv-loop μ-loop
-  add-from c = omega (arith, c .before .power .ensures, top-ready (c .before .before .before .before .before .before .before .before .before .pre .1 .0) (many (c .before .before .before .before .before .before)) .places)
+  add-from c = omega (arith, c .before .power .ensures, top-ready (c .before .before .before .before .before .before .before .before .before .pre .1) (many (c .before .before .before .before .before .before)) .places)
 
   loop-holds : lts.Need-loop-holds (claims t) (entry t) reads.Post Inv-loop μ-loop
   loop-holds c = (omega arith, omega arith, refl, none-put (puts-from _) _ _ _ _)
@@ -89,7 +89,7 @@ module _ (t : ℕ) where
       (length (now (s .args .counts))) (length (now (s .args .work)))
   lower c =
       let first = c .before .before .before .power .ensures in
-      lower-ready (c .before .before .before .before .before .before .before .before .before .before .before .pre .1 .0) (many (c .before .before .before .before .before .before .before .before)) {j = c .before .loop .j} (omega (arith, first)) (rw (← first, ← c .before .before .power2 .ensures) (c .before .loop .inv .1))
+      lower-ready (c .before .before .before .before .before .before .before .before .before .before .before .pre .1) (many (c .before .before .before .before .before .before .before .before)) {j = c .before .loop .j} (omega (arith, first)) (rw (← first, ← c .before .before .power2 .ensures) (c .before .loop .inv .1))
       (rw (← first))
 
   ready : (c : lts.In-loop (claims t) (entry t) reads.Post Inv-loop μ-loop)
@@ -106,12 +106,12 @@ module _ (t : ℕ) where
   add-range c = omega (arith, range-inside (lower c))
 
   small-requires-2 : lts.Need-write-small-requires-2 (claims t) (entry t) reads.Post Inv-loop μ-loop
-  small-requires-2 c κs = (ready (c .before .before), (c .before .if2 .taken, c .before .before .before .before .before .before .before .before .before .before .before .before .before .pre .1 .1))
+  small-requires-2 c κs = (ready (c .before .before), c .before .if2 .taken)
 
   lower-requires : lts.Need-write-tree-requires-2 (claims t) (entry t) reads.Post Inv-loop μ-loop
   lower-requires c κs =
       let h = halves _ (many (c .before .before .before .before .before .before .before .before .before .before)) in
-      (omega (arith, c .before .before .before .before .before .before .before .before .before .before .before .before .before .pre .0, h .both, h .top), (ready (c .before .before), c .before .before .before .before .before .before .before .before .before .before .before .before .before .pre .1 .1))
+      (omega (arith, c .before .before .before .before .before .before .before .before .before .before .before .before .before .pre .0, h .both, h .top), ready (c .before .before))
 
   -- It is written, by either call.
   subtree : (c : lts.Joined2 (claims t) (entry t) reads.Post Inv-loop μ-loop)
@@ -125,7 +125,7 @@ module _ (t : ℕ) where
   add-from-2 c = omega (arith, c .before .before .before .power2 .ensures, lower (c .before) .places)
 
   add-j : lts.Need-add-j (claims t) (entry t) reads.Post Inv-loop μ-loop
-  add-j c = omega (arith, c .before .before .before .before .power .ensures, top-ready (c .before .before .before .before .before .before .before .before .before .before .before .before .pre .1 .0) (many (c .before .before .before .before .before .before .before .before .before)) .places)
+  add-j c = omega (arith, c .before .before .before .before .power .ensures, top-ready (c .before .before .before .before .before .before .before .before .before .before .before .before .pre .1) (many (c .before .before .before .before .before .before .before .before .before)) .places)
 
   loop-less : lts.Need-loop-less (claims t) (entry t) reads.Post Inv-loop μ-loop
   loop-less c = search needs

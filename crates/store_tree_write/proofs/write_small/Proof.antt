@@ -10,10 +10,10 @@ use Rattle.store_tree_write.proofs.write_small.Tie as tie
 last : (c : tie.Else3) → c .before .before .before .before .before .args .levels ≡ 1
 last c =
     let s = c .before .before .before .before .before in
-    omega (arith, c .if3 .left, c .before .if2 .left, c .before .before .if1 .left, s .pre .0 .some-level, s .pre .1 .0)
+    omega (arith, c .if3 .left, c .before .if2 .left, c .before .before .if1 .left, s .pre .0 .some-level, s .pre .1)
 
 write-four-requires : tie.Need-write-four-requires
-write-four-requires c κs = (ready-is (c .before .if1 .taken) (c .before .before .before .before .pre .0), c .before .before .before .before .pre .1 .1)
+write-four-requires c κs = ready-is (c .before .if1 .taken) (c .before .before .before .before .pre .0)
 
 same-length : tie.Need-same-length
 same-length c = search needs
@@ -22,7 +22,7 @@ returns : tie.Need-returns
 returns c = rw (c .before .before .before .before .if1 .taken) (c .before .before .write-four .ensures)
 
 write-three-requires : tie.Need-write-three-requires
-write-three-requires c κs = (ready-is (c .before .if2 .taken) (c .before .before .before .before .before .pre .0), c .before .before .before .before .before .pre .1 .1)
+write-three-requires c κs = ready-is (c .before .if2 .taken) (c .before .before .before .before .before .pre .0)
 
 same-length-2 : tie.Need-same-length-2
 same-length-2 c = search needs
@@ -31,7 +31,7 @@ returns-2 : tie.Need-returns-2
 returns-2 c = rw (c .before .before .before .before .if2 .taken) (c .before .before .write-three .ensures)
 
 write-two-requires : tie.Need-write-two-requires
-write-two-requires c κs = (ready-is (c .before .if3 .taken) (c .before .before .before .before .before .before .pre .0), c .before .before .before .before .before .before .pre .1 .1)
+write-two-requires c κs = ready-is (c .before .if3 .taken) (c .before .before .before .before .before .before .pre .0)
 
 same-length-3 : tie.Need-same-length-3
 same-length-3 c = search needs
@@ -40,7 +40,7 @@ returns-3 : tie.Need-returns-3
 returns-3 c = rw (c .before .before .before .before .if3 .taken) (c .before .before .write-two .ensures)
 
 write-one-requires : tie.Need-write-one-requires
-write-one-requires c κs = (ready-is (last (c .before)) (c .before .before .before .before .before .before .pre .0), c .before .before .before .before .before .before .pre .1 .1)
+write-one-requires c κs = ready-is (last (c .before)) (c .before .before .before .before .before .before .pre .0)
 
 same-length-4 : tie.Need-same-length-4
 same-length-4 c = search needs

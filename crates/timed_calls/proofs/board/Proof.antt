@@ -1,6 +1,7 @@
 -- `board` meets its contract.
 use Rattle.call_outcomes.specs.PlainCalls.{boardOf}
-use Rattle.timed_calls.specs.QuestionLaws.{readable, asked-outcome}
+use Rattle.timed_answers.specs.QuestionLaws.{readable, asked-outcome}
+use Rattle.call_outcomes.specs.ClubsLaws.{clubs-ready}
 use borrow.Author.Needs.{needs}
 use Rattle.timed_calls.proofs.board.Statement.{statement}
 use Rattle.timed_calls.proofs.board.Tie as tie
@@ -15,7 +16,7 @@ slice-aggregate-board : tie.Need-slice-aggregate-board
 slice-aggregate-board c = search needs
 
 board-requires : tie.Need-board-requires
-board-requires c κs = readable (c .before .before .before .examine .ensures)
+board-requires c κs = readable clubs-ready (c .before .before .before .examine .ensures)
 
 same-length : tie.Need-same-length
 same-length c = search needs
@@ -23,7 +24,7 @@ same-length c = search needs
 returns : tie.Need-returns
 returns c =
     let r = c .before .before in
-    asked-outcome (r .before .before .before .before .examine .ensures) (boardOf _ _) _ _ _ _ (r .board .ensures)
+    asked-outcome clubs-ready (r .before .before .before .before .examine .ensures) (boardOf _ _) _ _ _ _ (r .board .ensures)
 
 pub board-spec : {M : Type 1} → statement M
 board-spec =

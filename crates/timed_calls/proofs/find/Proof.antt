@@ -9,8 +9,9 @@ use Rattle.call_outcomes.specs.Clubs.{clubs}
 use Rattle.call_open.specs.Opening.{OpenedStore}
 use Rattle.call_open.specs.AdmittedLaws.{opened-store}
 use Rattle.call_timed.specs.Timed.{timedView, find, timedStoreOf, timedNumbers}
-use Rattle.timed_calls.specs.SheetLaws.{search-ready}
-use Rattle.timed_calls.specs.EntryLaws.{store-refused, find-zero, find-present, find-absent}
+use Rattle.timed_answers.specs.SheetLaws.{search-ready}
+use Rattle.timed_answers.specs.EntryLaws.{store-refused, find-zero, find-present, find-absent}
+use Rattle.call_outcomes.specs.ClubsLaws.{clubs-ready}
 use borrow.Author.Needs.{needs}
 use Rattle.timed_calls.proofs.find.Statement.{statement}
 use Rattle.timed_calls.proofs.find.Tie as tie
@@ -39,19 +40,19 @@ key-requires : tie.Need-key-requires
 key-requires c κs = search needs
 
 returns : tie.Need-returns
-returns c = let k = c .before in find-zero (sheet (k .before .before)) _ (sym (k .key .ensures) ∙ c .if1 .taken)
+returns c = let k = c .before in find-zero clubs-ready (sheet (k .before .before)) _ (sym (k .key .ensures) ∙ c .if1 .taken)
 
 slice-aggregate-search : tie.Need-slice-aggregate-search
 slice-aggregate-search c = search needs
 
 search-requires : tie.Need-search-requires
-search-requires c κs = search-ready (sheet (c .before .before .before .before))
+search-requires c κs = search-ready clubs-ready (sheet (c .before .before .before .before))
 
 returns-2 : tie.Need-returns-2
 returns-2 c =
     let s = c .before in
     let k = s .before .before in
-    find-present (sheet (k .before .before .before)) _ (some-key k) _ (s .search .ensures) (c .if2 .taken)
+    find-present clubs-ready (sheet (k .before .before .before)) _ (some-key k) _ (s .search .ensures) (c .if2 .taken)
 
 enum-known-cause : tie.Need-enum-known-cause
 enum-known-cause c = search needs
@@ -60,13 +61,13 @@ returns-3 : tie.Need-returns-3
 returns-3 c =
     let s = c .before in
     let k = s .before .before in
-    find-absent (sheet (k .before .before .before)) _ (some-key k) _ (s .search .ensures) (c .if2 .left)
+    find-absent clubs-ready (sheet (k .before .before .before)) _ (some-key k) _ (s .search .ensures) (c .if2 .left)
 
 returns-4 : tie.Need-returns-4
 unfolding lookedAt
 returns-4 c =
     let k = c .before in
-    store-refused _ _ _ _ (find _) refl [] (k .before .before .before .examine .ensures .found) (k .cause .given .1)
+    store-refused clubs _ _ _ _ (find _) refl [] (k .before .before .before .examine .ensures .found) (k .cause .given .1)
 
 pub find-spec : {M : Type 1} → statement M
 find-spec =

@@ -1,6 +1,7 @@
 -- `read` meets its contract.
 use Rattle.call_outcomes.specs.PlainCalls.{readRanks}
-use Rattle.timed_calls.specs.QuestionLaws.{readable, asked-outcome}
+use Rattle.timed_answers.specs.QuestionLaws.{readable, asked-outcome}
+use Rattle.call_outcomes.specs.ClubsLaws.{clubs-ready}
 use borrow.Author.Needs.{needs}
 use Rattle.timed_calls.proofs.read.Statement.{statement}
 use Rattle.timed_calls.proofs.read.Tie as tie
@@ -15,7 +16,7 @@ slice-aggregate-read : tie.Need-slice-aggregate-read
 slice-aggregate-read c = search needs
 
 read-requires : tie.Need-read-requires
-read-requires c κs = readable (c .before .before .before .examine .ensures)
+read-requires c κs = readable clubs-ready (c .before .before .before .examine .ensures)
 
 same-length : tie.Need-same-length
 same-length c = search needs
@@ -23,7 +24,7 @@ same-length c = search needs
 returns : tie.Need-returns
 returns c =
     let r = c .before .before in
-    asked-outcome (r .before .before .before .before .examine .ensures) (readRanks _ _ _) _ _ _ _ (r .read .ensures)
+    asked-outcome clubs-ready (r .before .before .before .before .examine .ensures) (readRanks _ _ _) _ _ _ _ (r .read .ensures)
 
 pub read-spec : {M : Type 1} → statement M
 read-spec =

@@ -16,19 +16,18 @@ returns c =
     let e = c .before in
     rw (← (e .before .slots .ensures), sym (e .entries-rise .ensures) ∙ not-true _ (c .if1 .taken))
 
-slice-aggregate-is-balance : tie.Need-slice-aggregate-is-balance
-slice-aggregate-is-balance c = search needs
-
 is-balance-requires : tie.Need-is-balance-requires
 is-balance-requires c κs = search needs
 
+same-length : tie.Need-same-length
+same-length c = search needs
+
 returns-2 : tie.Need-returns-2
 returns-2 c =
-    let i = c .before in
+    let i = c .before .before in
     let e = i .before .before in
     let r = e .before in
-    rw (← (r .before .slots .ensures), sym (r .entries-rise .ensures) ∙ not-false _ (e .if1 .left))
-    (rw (r .before .before .before .before .pre .1 .1 .1) at (i .is-balance .ensures))
+    rw (← (r .before .slots .ensures), sym (r .entries-rise .ensures) ∙ not-false _ (e .if1 .left)) (i .is-balance .ensures)
 
 pub is-timed-spec : {M : Type 1} → statement M
 is-timed-spec =
@@ -37,6 +36,6 @@ is-timed-spec =
     slots-requires
     entries-rise-requires
     returns
-    slice-aggregate-is-balance
     is-balance-requires
+    same-length
     returns-2)

@@ -1,15 +1,24 @@
 //! What the tests hold the calls against: the rules over whole lists, with each
-//! entry named once and every sheet laid out from nothing.
+//! entry named once and every sheet laid out from nothing. Stores are those of the clubs
+//! where a name does not say otherwise; [`lay_out_as`] and [`Model::store_as`] lay out in
+//! any store.
 #![allow(dead_code)]
 
+pub mod all_calls;
+pub mod damage;
+pub mod mending;
+pub mod pairs;
+pub mod timed_pairs;
+
 use reference::calls::{self, Answer};
+use reference::capacity::{Capacity, Number, CLUBS};
 use reference::coins::{Source, Undecided};
 use reference::layout::{COUNTS, SLOTS, TALLIES};
 use reference::places::{RETIRED, TIED};
 use reference::random::SplitMix64;
-use reference::shares::Store;
-use reference::timed::{self, Balance, BALANCE};
-use reference::timed_shares::Store as TimedStore;
+use reference::shares::{Store, StoreOf};
+use reference::timed;
+use reference::timed_shares::{Store as TimedStore, StoreOf as TimedStoreOf};
 use std::cmp::Ordering;
 use std::collections::BTreeMap;
 
@@ -23,7 +32,7 @@ pub fn height(m: usize) -> usize {
     }
 }
 
-fn g(m: usize) -> usize {
+pub fn g(m: usize) -> usize {
     format!("{:b}", m - 1).len()
 }
 
@@ -40,7 +49,7 @@ pub fn candidates(m: usize, depth: usize) -> usize {
 }
 
 /// The number, from 1, of the first of `c` candidates among `n` entries.
-fn first_candidate(n: usize, c: usize) -> usize {
+pub fn first_candidate(n: usize, c: usize) -> usize {
     assert!(c <= n, "candidates fit");
     1 + (n + 1) / 2 - (c + 1) / 2
 }
@@ -102,7 +111,19 @@ impl Order {
 /// its length and its number of candidates, and tells which candidate, from 0,
 /// is the balance entry.
 pub fn lay_out(list: &[u64], m: usize, balance: impl FnMut(usize, usize, usize) -> usize) -> Store {
-    lay_out_in(Order::Tree, list, m, balance)
+    lay_out_as(list, m, balance)
+}
+
+/// The same in the store that the width of the counts tells.
+pub fn lay_out_as<T: Number>(
+    list: &[u64],
+    m: usize,
+    mut balance: impl FnMut(usize, usize, usize) -> usize,
+) -> StoreOf<T> {
+    let mut store = StoreOf::cleared();
+    store.counts[0] = T::of(m);
+    lay_out_range(&mut store, Order::Tree, m, 1, 0, list, &mut balance);
+    store
 }
 
 /// The same with the counts in this order. The tallies stand in tree order in both:
@@ -120,12 +141,12 @@ pub fn lay_out_in(
 }
 
 /// How many entries of a list do not bear bit 62 (02, F-11).
-pub fn scoring(list: &[u64]) -> u16 {
-    list.iter().filter(|&&entry| entry & RETIRED == 0).count() as u16
+pub fn scoring(list: &[u64]) -> usize {
+    list.iter().filter(|&&entry| entry & RETIRED == 0).count()
 }
 
-fn lay_out_range(
-    store: &mut Store,
+fn lay_out_range<T: Number>(
+    store: &mut StoreOf<T>,
     order: Order,
     m: usize,
     range: usize,
@@ -134,8 +155,8 @@ fn lay_out_range(
     balance: &mut impl FnMut(usize, usize, usize) -> usize,
 ) {
     let n = list.len();
-    store.counts[order.place(range, m)] = n as u16;
-    store.tallies[Order::Tree.place(range, m)] = scoring(list);
+    store.counts[order.place(range, m)] = T::of(n);
+    store.tallies[Order::Tree.place(range, m)] = T::of(scoring(list));
     if depth == height(m) {
         let slots = leaf_slots(m);
         assert!(n <= slots, "leaf {range} of M {m} holds {n}");
@@ -163,15 +184,21 @@ pub fn lay_out_timed(
 }
 
 /// A sheet with the third slice that belongs to it (02, F-1).
-pub fn with_third_slice(plain: Store) -> TimedStore {
-    let mut balance = Box::new([0; BALANCE]);
+pub fn with_third_slice<T: Number>(plain: StoreOf<T>) -> TimedStoreOf<T> {
+    let mut balance = vec![0; T::CAPACITY.counts].into_boxed_slice();
     split_range(&plain, 1, 0, &entries(&plain), &mut balance);
-    TimedStore { plain, balance }
+    TimedStoreOf { plain, balance }
 }
 
 /// Splits the list of a range by its counts; the right half begins with the
 /// balance entry.
-fn split_range(store: &Store, range: usize, depth: usize, list: &[u64], balance: &mut Balance) {
+fn split_range<T: Number>(
+    store: &StoreOf<T>,
+    range: usize,
+    depth: usize,
+    list: &[u64],
+    balance: &mut [u64],
+) {
     if depth == height(m(store)) {
         return;
     }
@@ -184,6 +211,17 @@ fn split_range(store: &Store, range: usize, depth: usize, list: &[u64], balance:
 /// The list 1000, 2000, …, each with bits 63 and 62 by its rank.
 pub fn boats(n: u64) -> Vec<u64> {
     (0..n).map(|k| 1000 * (k + 1) | (k % 4) << 62).collect()
+}
+
+/// A timed sheet of so many boats and this size, with random balance entries.
+pub fn boats_in<T: Number>(n: usize, m: usize, random: &mut SplitMix64) -> TimedStoreOf<T> {
+    let plain = lay_out_as(&boats(n as u64), m, |_, _, c| random.below(c));
+    with_third_slice(plain)
+}
+
+/// Any M that a sheet of n entries can have.
+pub fn some_size(n: usize, random: &mut SplitMix64) -> usize {
+    n + random.below(n.max(1))
 }
 
 /// The list with bit 63 in the entries whose ranks are the bits of `pattern`, and
@@ -274,33 +312,38 @@ pub fn values_by_words(list: &[u64], rank: usize) -> [usize; 3] {
 }
 
 /// Whether some list, size and balance entries lay out exactly this store.
-pub fn is_laid_out(store: &Store) -> bool {
+pub fn is_laid_out<T: Number>(store: &StoreOf<T>) -> bool {
     laid_out_again(store).map_or(false, |again| again == *store)
 }
 
 /// Whether a list of `n` entries can stand in a sheet of size M.
 pub fn allows(m: usize, n: usize) -> bool {
+    allows_in(CLUBS, m, n)
+}
+
+/// The same in a store of this capacity.
+pub fn allows_in(capacity: Capacity, m: usize, n: usize) -> bool {
     match n {
         0 => m == 0,
-        _ => n <= 1024 && (n..2 * n).contains(&m),
+        _ => n <= capacity.entries && (n..2 * n).contains(&m),
     }
 }
 
 /// The entries in slot order.
-pub fn entries(store: &Store) -> Vec<u64> {
+pub fn entries<T>(store: &StoreOf<T>) -> Vec<u64> {
     store.slots.iter().copied().filter(|&e| e != 0).collect()
 }
 
 /// The store that the entries in slot order, count 0 and the left halves lay out:
 /// only these come in question for this store.
-pub fn laid_out_again(store: &Store) -> Option<Store> {
+pub fn laid_out_again<T: Number>(store: &StoreOf<T>) -> Option<StoreOf<T>> {
     let (m, list) = (m(store), entries(store));
-    if !allows(m, list.len()) {
+    if !allows_in(T::CAPACITY, m, list.len()) {
         return None;
     }
     let mut all_are_candidates = true;
-    let laid_out = lay_out(&list, m, |range, n, c| {
-        let left = usize::from(store.counts[Order::Tree.place(2 * range, m)]);
+    let laid_out = lay_out_as(&list, m, |range, n, c| {
+        let left = count(store, 2 * range);
         let chosen = (left + 1).wrapping_sub(first_candidate(n, c));
         all_are_candidates &= chosen < c;
         chosen.min(c - 1)
@@ -326,6 +369,22 @@ pub struct Model {
 }
 
 impl Model {
+    /// The sheet of a list with an M that it can have, built by these draws.
+    pub fn built<S: Source>(list: &[u64], m: usize, source: &mut S) -> Model {
+        let mut model = Model {
+            m,
+            names: list.len() as u64,
+            ..Model::default()
+        };
+        model.list = (0..)
+            .zip(list)
+            .map(|(name, &entry)| Named { name, entry })
+            .collect();
+        let named = model.list.clone();
+        model.rebuild(1, 0, &named, source).expect("enough draws");
+        model
+    }
+
     pub fn n(&self) -> usize {
         self.list.len()
     }
@@ -468,7 +527,15 @@ impl Model {
 
     /// The store of this sheet.
     pub fn store(&self) -> Store {
-        self.store_in(Order::Tree)
+        self.store_as()
+    }
+
+    /// The store of this sheet that the width of the counts tells.
+    pub fn store_as<T: Number>(&self) -> StoreOf<T> {
+        let mut store = StoreOf::cleared();
+        store.counts[0] = T::of(self.m);
+        self.write(&mut store, Order::Tree, 1, 0, &self.list);
+        store
     }
 
     /// The store of this sheet with its counts in this order.
@@ -481,20 +548,33 @@ impl Model {
 
     /// The timed store of this sheet, whose list rises.
     pub fn timed_store(&self) -> TimedStore {
-        let mut balance = Box::new([0; BALANCE]);
-        for (&range, &name) in &self.balance {
-            balance[range] = self.list[position(&self.list, name)].entry;
+        self.timed_store_as()
+    }
+
+    /// The timed store of this sheet that the width of the counts tells.
+    pub fn timed_store_as<T: Number>(&self) -> TimedStoreOf<T> {
+        let entry_of: BTreeMap<u64, u64> = self.list.iter().map(|of| (of.name, of.entry)).collect();
+        let mut balance = vec![0; T::CAPACITY.counts].into_boxed_slice();
+        for (&range, name) in &self.balance {
+            balance[range] = entry_of[name];
         }
-        TimedStore {
-            plain: self.store(),
+        TimedStoreOf {
+            plain: self.store_as(),
             balance,
         }
     }
 
-    fn write(&self, store: &mut Store, order: Order, range: usize, depth: usize, list: &[Named]) {
-        store.counts[order.place(range, self.m)] = list.len() as u16;
+    fn write<T: Number>(
+        &self,
+        store: &mut StoreOf<T>,
+        order: Order,
+        range: usize,
+        depth: usize,
+        list: &[Named],
+    ) {
+        store.counts[order.place(range, self.m)] = T::of(list.len());
         let entries: Vec<u64> = list.iter().map(|named| named.entry).collect();
-        store.tallies[Order::Tree.place(range, self.m)] = scoring(&entries);
+        store.tallies[Order::Tree.place(range, self.m)] = T::of(scoring(&entries));
         if depth == height(self.m) {
             let slots = leaf_slots(self.m);
             let start = (range - (1 << depth)) * slots;
@@ -546,60 +626,65 @@ pub fn sheet_of(n: usize, random: &mut SplitMix64) -> Store {
     store
 }
 
-pub fn insert(store: &mut Store, rank: usize, entry: u64, tape: &[u32]) -> Answer {
-    let (slots, counts) = (&mut store.slots[..], &mut store.counts[..]);
-    calls::insert(slots, counts, &mut store.tallies[..], rank, entry, tape)
+pub fn insert<T: Number>(store: &mut StoreOf<T>, rank: usize, entry: u64, tape: &[u32]) -> Answer {
+    let (slots, counts) = (&mut store.slots, &mut store.counts);
+    calls::insert(slots, counts, &mut store.tallies, rank, entry, tape)
 }
 
-pub fn delete(store: &mut Store, rank: usize, tape: &[u32]) -> Answer {
-    let (slots, counts) = (&mut store.slots[..], &mut store.counts[..]);
-    calls::delete(slots, counts, &mut store.tallies[..], rank, tape)
+pub fn delete<T: Number>(store: &mut StoreOf<T>, rank: usize, tape: &[u32]) -> Answer {
+    let (slots, counts) = (&mut store.slots, &mut store.counts);
+    calls::delete(slots, counts, &mut store.tallies, rank, tape)
 }
 
-pub fn read(store: &Store, first: usize, last: usize, output: &mut [u64]) -> Answer {
-    let (slots, counts) = (&store.slots[..], &store.counts[..]);
-    calls::read(slots, counts, &store.tallies[..], first, last, output)
+pub fn read<T: Number>(
+    store: &StoreOf<T>,
+    first: usize,
+    last: usize,
+    output: &mut [u64],
+) -> Answer {
+    let (slots, counts) = (&store.slots, &store.counts);
+    calls::read(slots, counts, &store.tallies, first, last, output)
 }
 
-pub fn board(store: &Store, ranks: &[u64], output: &mut [u64]) -> Answer {
-    let (slots, counts) = (&store.slots[..], &store.counts[..]);
-    calls::board(slots, counts, &store.tallies[..], ranks, output)
+pub fn board<T: Number>(store: &StoreOf<T>, ranks: &[u64], output: &mut [u64]) -> Answer {
+    let (slots, counts) = (&store.slots, &store.counts);
+    calls::board(slots, counts, &store.tallies, ranks, output)
 }
 
-pub fn check(store: &Store) -> Answer {
-    calls::check(&store.slots[..], &store.counts[..], &store.tallies[..])
+pub fn check<T: Number>(store: &StoreOf<T>) -> Answer {
+    calls::check(&store.slots, &store.counts, &store.tallies)
 }
 
-pub fn mend(store: &mut Store) -> Answer {
-    let (counts, tallies) = (&mut store.counts[..], &mut store.tallies[..]);
-    calls::mend(&store.slots[..], counts, tallies)
+pub fn mend<T: Number>(store: &mut StoreOf<T>) -> Answer {
+    let (counts, tallies) = (&mut store.counts, &mut store.tallies);
+    calls::mend(&store.slots, counts, tallies)
 }
 
-pub fn place_of(store: &Store, rank: usize) -> Answer {
-    let (slots, counts) = (&store.slots[..], &store.counts[..]);
-    calls::place(slots, counts, &store.tallies[..], rank)
+pub fn place_of<T: Number>(store: &StoreOf<T>, rank: usize) -> Answer {
+    let (slots, counts) = (&store.slots, &store.counts);
+    calls::place(slots, counts, &store.tallies, rank)
 }
 
-pub fn clear(store: &mut Store) -> Answer {
-    let (slots, counts) = (&mut store.slots[..], &mut store.counts[..]);
-    calls::clear(slots, counts, &mut store.tallies[..])
+pub fn clear<T: Number>(store: &mut StoreOf<T>) -> Answer {
+    let (slots, counts) = (&mut store.slots, &mut store.counts);
+    calls::clear(slots, counts, &mut store.tallies)
 }
 
-pub fn m(store: &Store) -> usize {
-    store.counts[0].into()
+pub fn m<T: Number>(store: &StoreOf<T>) -> usize {
+    store.counts[0].value()
 }
 
-pub fn n(store: &Store) -> usize {
-    store.counts[1].into()
+pub fn n<T: Number>(store: &StoreOf<T>) -> usize {
+    store.counts[1].value()
 }
 
 /// The count of a range.
-pub fn count(store: &Store, range: usize) -> usize {
-    store.counts[Order::Tree.place(range, m(store))].into()
+pub fn count<T: Number>(store: &StoreOf<T>, range: usize) -> usize {
+    store.counts[Order::Tree.place(range, m(store))].value()
 }
 
 /// The whole list, through read.
-pub fn list(store: &Store) -> Vec<u64> {
+pub fn list<T: Number>(store: &StoreOf<T>) -> Vec<u64> {
     let n = n(store);
     let mut list = vec![0; n];
     if n > 0 {
@@ -609,60 +694,77 @@ pub fn list(store: &Store) -> Vec<u64> {
     list
 }
 
-pub fn timed_insert(store: &mut TimedStore, entry: u64, tape: &[u32]) -> Answer {
-    let TimedStore { plain, balance } = store;
-    let (slots, counts) = (&mut plain.slots[..], &mut plain.counts[..]);
-    let (tallies, balance) = (&mut plain.tallies[..], &mut balance[..]);
-    timed::insert(slots, counts, tallies, balance, entry, tape)
+pub fn timed_clear<T: Number>(store: &mut TimedStoreOf<T>) -> Answer {
+    let TimedStoreOf { plain, balance } = store;
+    let (slots, counts) = (&mut plain.slots, &mut plain.counts);
+    timed::clear(slots, counts, &mut plain.tallies, balance)
 }
 
-pub fn timed_delete(store: &mut TimedStore, rank: usize, tape: &[u32]) -> Answer {
-    let TimedStore { plain, balance } = store;
-    let (slots, counts) = (&mut plain.slots[..], &mut plain.counts[..]);
-    let (tallies, balance) = (&mut plain.tallies[..], &mut balance[..]);
-    timed::delete(slots, counts, tallies, balance, rank, tape)
+pub fn timed_insert<T: Number>(store: &mut TimedStoreOf<T>, entry: u64, tape: &[u32]) -> Answer {
+    let TimedStoreOf { plain, balance } = store;
+    let (slots, counts) = (&mut plain.slots, &mut plain.counts);
+    timed::insert(slots, counts, &mut plain.tallies, balance, entry, tape)
 }
 
-pub fn timed_find(store: &TimedStore, entry: u64) -> Answer {
+pub fn timed_delete<T: Number>(store: &mut TimedStoreOf<T>, rank: usize, tape: &[u32]) -> Answer {
+    let TimedStoreOf { plain, balance } = store;
+    let (slots, counts) = (&mut plain.slots, &mut plain.counts);
+    timed::delete(slots, counts, &mut plain.tallies, balance, rank, tape)
+}
+
+pub fn timed_find<T: Number>(store: &TimedStoreOf<T>, entry: u64) -> Answer {
     let (slots, counts, tallies, balance) = timed_slices(store);
     timed::find(slots, counts, tallies, balance, entry)
 }
 
-pub fn timed_read(store: &TimedStore, first: usize, last: usize, output: &mut [u64]) -> Answer {
+pub fn timed_read<T: Number>(
+    store: &TimedStoreOf<T>,
+    first: usize,
+    last: usize,
+    output: &mut [u64],
+) -> Answer {
     let (slots, counts, tallies, balance) = timed_slices(store);
     timed::read(slots, counts, tallies, balance, first, last, output)
 }
 
-pub fn timed_board(store: &TimedStore, ranks: &[u64], output: &mut [u64]) -> Answer {
+pub fn timed_board<T: Number>(
+    store: &TimedStoreOf<T>,
+    ranks: &[u64],
+    output: &mut [u64],
+) -> Answer {
     let (slots, counts, tallies, balance) = timed_slices(store);
     timed::board(slots, counts, tallies, balance, ranks, output)
 }
 
-pub fn timed_place(store: &TimedStore, rank: usize) -> Answer {
+pub fn timed_place<T: Number>(store: &TimedStoreOf<T>, rank: usize) -> Answer {
     let (slots, counts, tallies, balance) = timed_slices(store);
     timed::place(slots, counts, tallies, balance, rank)
 }
 
-pub fn timed_check(store: &TimedStore) -> Answer {
+pub fn timed_check<T: Number>(store: &TimedStoreOf<T>) -> Answer {
     let (slots, counts, tallies, balance) = timed_slices(store);
     timed::check(slots, counts, tallies, balance)
 }
 
-pub fn timed_mend(store: &mut TimedStore) -> Answer {
-    let TimedStore { plain, balance } = store;
-    let (slots, counts) = (&plain.slots[..], &mut plain.counts[..]);
-    timed::mend(slots, counts, &mut plain.tallies[..], &mut balance[..])
+pub fn timed_mend<T: Number>(store: &mut TimedStoreOf<T>) -> Answer {
+    let TimedStoreOf { plain, balance } = store;
+    let (slots, counts) = (&plain.slots, &mut plain.counts);
+    timed::mend(slots, counts, &mut plain.tallies, balance)
 }
 
-fn timed_slices(store: &TimedStore) -> (&[u64], &[u16], &[u16], &[u64]) {
-    let TimedStore { plain, balance } = store;
-    let (slots, counts) = (&plain.slots[..], &plain.counts[..]);
-    (slots, counts, &plain.tallies[..], &balance[..])
+fn timed_slices<T>(store: &TimedStoreOf<T>) -> (&[u64], &[T], &[T], &[u64]) {
+    let TimedStoreOf { plain, balance } = store;
+    (&plain.slots, &plain.counts, &plain.tallies, balance)
 }
 
 /// Slices of any lengths, for calls that must refuse them.
-pub fn slices(slots: usize, counts: usize, tallies: usize) -> (Vec<u64>, Vec<u16>, Vec<u16>) {
-    (vec![0; slots], vec![0; counts], vec![0; tallies])
+pub fn slices<T: Number>(
+    slots: usize,
+    counts: usize,
+    tallies: usize,
+) -> (Vec<u64>, Vec<T>, Vec<T>) {
+    let zero = T::default();
+    (vec![0; slots], vec![zero; counts], vec![zero; tallies])
 }
 
 pub fn full_lengths() -> (Vec<u64>, Vec<u16>, Vec<u16>) {

@@ -1,0 +1,145 @@
+// The federation's timed sheet: cleared, and the questions about it, on a store of four lent slices.
+ghost use mathlib.Core.Path.{_≡_};
+ghost use mathlib.Core.List.{[]};
+ghost use lib.ListN.{length};
+ghost use Rattle.call_outcomes.specs.Kind.{clear};
+ghost use Rattle.call_outcomes.specs.Outcome.{outcome};
+ghost use Rattle.call_outcomes.specs.Federation.{federation};
+ghost use Rattle.call_timed.specs.Timed as call;
+ghost use Rattle.call_timed.specs.Timed.{timed, timedStoreOf, timedOutcomeOf};
+use call_open::Opened;
+use call_outcomes::Answer;
+use call_outcomes::Cause;
+use tree_sizes::Size;
+
+// Makes any contents the empty sheet.
+pub fn clear(
+    slots: &mut [u64],
+    counts: &mut [u32],
+    tallies: &mut [u32],
+    balance: &mut [u64],
+) -> Answer
+    ensures { λ r. ⌜ timedOutcomeOf r (now (slots .exit)) (now (counts .exit)) (now (tallies .exit)) (now (balance .exit)) []
+        ≡ outcome (timed federation) clear [] (timedStoreOf (now (slots .entry)) (now (counts .entry)) (now (tallies .entry)) (now (balance .entry))) [] ⌝ }
+{
+    let cap = federation_store::capacity();
+    if !timed_open::right_lengths(cap, slots.len(), counts.len(), tallies.len(), balance.len()) {
+        return Answer::Refused(Cause::Lengths);
+    }
+    store_slices::zero_slots(slots, 0, 208896);
+    store_counts::zero_counts(counts);
+    store_counts::zero_counts(tallies);
+    store_slices::zero_slots(balance, 0, 8192);
+    Answer::Cleared
+}
+
+// The rank of the entry, or that it is not there and the rank at which it would stand.
+pub fn find(slots: &[u64], counts: &[u32], tallies: &[u32], balance: &[u64], entry: u64) -> Answer
+    ensures { λ r. ⌜ timedOutcomeOf r (now (slots .entry)) (now (counts .entry)) (now (tallies .entry)) (now (balance .entry)) []
+        ≡ outcome (timed federation) (call.find entry) [] (timedStoreOf (now (slots .entry)) (now (counts .entry)) (now (tallies .entry)) (now (balance .entry))) [] ⌝ }
+{
+    let mut work = [0u32; 8192];
+    let mut numbers = [0u32; 8192];
+    match federation_timed::examine(slots, counts, tallies, balance, &mut work, &mut numbers) {
+        Opened::Sheet { n: _, m } => {
+            if store_keys::key(entry) == 0 {
+                return Answer::Refused(Cause::EntryZero);
+            }
+            let sought = store_search::search(Size { m: m }, slots, &work, balance, entry);
+            if sought.present {
+                return Answer::Present { rank: sought.rank };
+            }
+            Answer::Absent { rank: sought.rank }
+        }
+        Opened::Refused(cause) => Answer::Refused(cause),
+    }
+}
+
+// Copies the entries of ranks first to last to the front of the output.
+pub fn read(
+    slots: &[u64],
+    counts: &[u32],
+    tallies: &[u32],
+    balance: &[u64],
+    first: usize,
+    last: usize,
+    output: &mut [u64],
+) -> Answer
+    ensures { λ r. ⌜ timedOutcomeOf r (now (slots .entry)) (now (counts .entry)) (now (tallies .entry)) (now (balance .entry)) (now (output .exit))
+        ≡ outcome (timed federation) (call.read first last (length (now (output .entry)))) []
+        (timedStoreOf (now (slots .entry)) (now (counts .entry)) (now (tallies .entry)) (now (balance .entry))) (now (output .entry)) ⌝ }
+{
+    let mut work = [0u32; 8192];
+    let mut numbers = [0u32; 8192];
+    let opened = federation_timed::examine(
+        slots,
+        counts,
+        tallies,
+        balance,
+        &mut work,
+        &mut numbers,
+    );
+    call_questions::read(opened, slots, &work, first, last, output)
+}
+
+// The place of the entry at the rank: that of her tied group, the sum of its places and the number of its boats; a retired boat has none.
+pub fn place(slots: &[u64], counts: &[u32], tallies: &[u32], balance: &[u64], rank: usize) -> Answer
+    ensures { λ r. ⌜ timedOutcomeOf r (now (slots .entry)) (now (counts .entry)) (now (tallies .entry)) (now (balance .entry)) []
+        ≡ outcome (timed federation) (call.place rank) [] (timedStoreOf (now (slots .entry)) (now (counts .entry)) (now (tallies .entry)) (now (balance .entry))) [] ⌝ }
+{
+    let mut work = [0u32; 8192];
+    let mut numbers = [0u32; 8192];
+    let opened = federation_timed::examine(
+        slots,
+        counts,
+        tallies,
+        balance,
+        &mut work,
+        &mut numbers,
+    );
+    call_questions::place(opened, slots, &work, &numbers, rank)
+}
+
+// The number of entries of a sheet.
+pub fn check(slots: &[u64], counts: &[u32], tallies: &[u32], balance: &[u64]) -> Answer
+    ensures { λ r. ⌜ timedOutcomeOf r (now (slots .entry)) (now (counts .entry)) (now (tallies .entry)) (now (balance .entry)) []
+        ≡ outcome (timed federation) call.check [] (timedStoreOf (now (slots .entry)) (now (counts .entry)) (now (tallies .entry)) (now (balance .entry))) [] ⌝ }
+{
+    let mut work = [0u32; 8192];
+    let mut numbers = [0u32; 8192];
+    let opened = federation_timed::examine(
+        slots,
+        counts,
+        tallies,
+        balance,
+        &mut work,
+        &mut numbers,
+    );
+    call_questions::check(opened)
+}
+
+// Copies the entries at the ranks, at most 64 that do not fall, to the front of the output.
+pub fn board(
+    slots: &[u64],
+    counts: &[u32],
+    tallies: &[u32],
+    balance: &[u64],
+    ranks: &[u64],
+    output: &mut [u64],
+) -> Answer
+    ensures { λ r. ⌜ timedOutcomeOf r (now (slots .entry)) (now (counts .entry)) (now (tallies .entry)) (now (balance .entry)) (now (output .exit))
+        ≡ outcome (timed federation) (call.board (now (ranks .entry)) (length (now (output .entry)))) []
+        (timedStoreOf (now (slots .entry)) (now (counts .entry)) (now (tallies .entry)) (now (balance .entry))) (now (output .entry)) ⌝ }
+{
+    let mut work = [0u32; 8192];
+    let mut numbers = [0u32; 8192];
+    let opened = federation_timed::examine(
+        slots,
+        counts,
+        tallies,
+        balance,
+        &mut work,
+        &mut numbers,
+    );
+    call_questions::board(opened, slots, &work, ranks, output)
+}

@@ -1,3 +1,0 @@
--- A change of a timed sheet: what it is given, then the laws.
-pub mod RankedReady
-pub mod ChangeLaws

@@ -1,2 +1,0 @@
--- Mending the clubs' timed sheet.
-pub mod MendLaws
