@@ -44,7 +44,7 @@ fn write_by_whole_list(slots: &mut [u64], counts: &mut [u32], work: &[u32], draw
 
 // Writes a drawn change whose part has at most 65,536 entries before it. A long list takes more time to make than a small part to lay out, so it is
 // made only where the part needs it.
-pub fn write_drawn(slots: &mut [u64], counts: &mut [u32], work: &[u32], drawn: DrawnChange)
+fn write_drawn(slots: &mut [u64], counts: &mut [u32], work: &[u32], drawn: DrawnChange)
     requires ready { ⌜ WriteReady drawn (storeOf (now slots) (now counts)) (now work) ⌝ }
     requires most { ⌜ length (entriesBefore drawn (now slots)) ≤ 65536 ⌝ }
     ensures { λ _. ⌜ storeOf (now (slots .exit)) (now (counts .exit))

@@ -8,6 +8,7 @@ use Rattle.store_layout.specs.declared.Capacity.{Capacity}
 use Rattle.store_layout.specs.Room.{CapacityReady}
 use Rattle.store_layout.specs.Leaf.{nonzero}
 use Rattle.store_layout.specs.Decode.{Contents}
+use Rattle.store_tallies.specs.Tallies.{rangeTallies}
 use Rattle.store_tallies.specs.LayLaws.{numbered-tallies}
 use Rattle.call_outcomes.specs.declared.Answer.{Answer}
 use Rattle.call_outcomes.specs.Kind.{ask}
@@ -19,7 +20,7 @@ use Rattle.call_outcomes.specs.Untallied.{untalliedView}
 use Rattle.call_outcomes.specs.SliceLaws.{slice-holds}
 use Rattle.call_outcomes.specs.Plain.{tallySlice, plainView, plain, PlainStore, plainStoreOf, plainOutcomeOf}
 use Rattle.call_open.specs.declared.Opened.{Opened}
-use Rattle.call_open.specs.Opening.{plainNumbers, Opening}
+use Rattle.call_open.specs.Opening.{plainNumbers, Opening, OpenedStore}
 use Rattle.call_open.specs.AdmittedLaws.{opened-store, plain-decoded, plain-sheet, plain-tallies}
 use Rattle.call_questions.specs.Asked.{asked, Answers, Readable, Tallied}
 use Rattle.call_questions.specs.AskedLaws as questions
@@ -54,16 +55,22 @@ module _ {cap : Capacity} (ready : CapacityReady cap) {slots counts tallies work
         → plainOutcomeOf answer slots counts tallies [] ≡ outcome (plain cap) (ask q) tape store []
     answered-outcome answer a nothing = questions.answered-outcome (plain cap) store (w .found) lists (plain-itself (plainView cap) (cap .entries) q) nothing answer a
 
--- The tallies by range number, for a place.
+-- ---- the tallies by range number, for a place
+
+-- Of a plain sheet that was found, they are those of its list and its shape.
+pub numbers-tallied : {cap : Capacity} → CapacityReady cap → {slots counts tallies work numbers : List ℕ} {n m : ℕ}
+    → (o : OpenedStore (plainView cap) plainNumbers (plainStoreOf slots counts tallies) n m work) → numbers ≡ numberOrder (height m) tallies
+    → numbers ≡ rangeTallies (cap .counts) (o .contents .list) (o .contents .shape)
+numbers-tallied {cap} ready {tallies = tallies} o is =
+    let c = o .contents in
+    is
+    ∙ ap (λ (k : ℕ). numberOrder (height k) tallies) (sym (o .size))
+    ∙ ap (numberOrder (height (c .shape .size))) (plain-tallies o)
+    ∙ numbered-tallies cap (ready .roomy) (c .list) (c .shape) (laid (plain-sheet o) .0)
+
 pub tallied : {cap : Capacity} → (ready : CapacityReady cap) → {slots counts tallies work numbers : List ℕ} {found : Opened}
     → PlainOpening cap (plainStoreOf slots counts tallies) found work numbers → Tallied found slots work numbers
 tallied {cap} ready {slots} {counts} {tallies} w = record {
   readable = readable ready (w .opening);
-  tallies = λ n m e.
-      let o = opened-store (plainView cap) plainNumbers (plainStoreOf slots counts tallies) (w .opening) n m e in
-      let c = o .contents in
-      w .tallied e
-      ∙ ap (λ (k : ℕ). numberOrder (height k) tallies) (sym (o .size))
-      ∙ ap (numberOrder (height (c .shape .size))) (plain-tallies o)
-      ∙ numbered-tallies cap (ready .roomy) (c .list) (c .shape) (laid (plain-sheet o) .0);
+  tallies = λ n m e. numbers-tallied ready (opened-store (plainView cap) plainNumbers (plainStoreOf slots counts tallies) (w .opening) n m e) (w .tallied e);
 }

@@ -28,7 +28,7 @@ fn split_range(leaf: usize) -> usize
 
 // Makes the third slice the one that the slots give after a change of the leaves from `first` to `last`: of each of them the word of the range
 // whose right half begins with it is written. The other words are right already.
-pub fn update_balance(size: Size, slots: &[u64], first: usize, last: usize, balance: &mut [u64])
+fn update_balance(size: Size, slots: &[u64], first: usize, last: usize, balance: &mut [u64])
     requires most { ⌜ size .m < 2 ^ 32 ⌝ }
     requires room { ⌜ 2 ^ height (size .m) ≤ length (now balance) ⌝ }
     requires leaves { ⌜ Row (height (size .m)) first last ⌝ }

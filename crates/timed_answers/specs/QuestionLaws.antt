@@ -1,13 +1,10 @@
 -- The questions about timed sheets of any capacity that are those of a plain sheet, by what their stores were found to hold.
-use mathlib.Core.Path.{_≡_, sym, _∙_, ap}
+use mathlib.Core.Path.{_≡_}
 use mathlib.Core.List.{List, []}
 use Prim.Native.Nat.{ℕ}
-use Rattle.tree_sizes.specs.Sizes.{height}
-use Rattle.store_order.specs.CountOrder.{numberOrder}
 use Rattle.store_layout.specs.declared.Capacity.{Capacity}
 use Rattle.store_layout.specs.Room.{CapacityReady}
 use Rattle.store_layout.specs.Leaf.{nonzero}
-use Rattle.store_tallies.specs.LayLaws.{numbered-tallies}
 use Rattle.call_outcomes.specs.declared.Answer.{Answer}
 use Rattle.call_outcomes.specs.Kind.{ask}
 use Rattle.call_outcomes.specs.Outcome.{outcome}
@@ -16,12 +13,12 @@ use Rattle.call_outcomes.specs.Plain.{plainView, plainStoreOf}
 use Rattle.call_open.specs.declared.Opened.{Opened}
 use Rattle.call_open.specs.declared.Opened.the-variants as opened
 use Rattle.call_open.specs.Opening.{plainNumbers, Opening, OpenedStore}
-use Rattle.call_open.specs.AdmittedLaws.{opened-store, plain-sheet, plain-tallies}
+use Rattle.call_open.specs.AdmittedLaws.{opened-store, plain-sheet}
 use Rattle.call_questions.specs.Asked.{asked, Answers, Readable, Tallied}
 use Rattle.call_questions.specs.AskedLaws as questions
-use Rattle.call_questions.specs.StartLaws.{laid}
 use Rattle.call_timed.specs.Timed.{timedView, TimedStore, asPlain, timed, timedStoreOf, timedNumbers, timedOutcomeOf}
 use Rattle.call_timed.specs.TimedLaws.{timed-as-plain}
+use Rattle.sheet_answers.specs.QuestionLaws.{numbers-tallied}
 use Rattle.timed_open.specs.TimedLook.{TimedOpening}
 use Rattle.timed_answers.specs.SheetLaws.{timed-list, plain-store}
 
@@ -49,13 +46,7 @@ module _ {cap : Capacity} (ready : CapacityReady cap) {slots counts tallies bala
 -- The tallies by range number, for a place.
 pub tallied : {cap : Capacity} → (ready : CapacityReady cap) → {slots counts tallies balance work numbers : List ℕ} {found : Opened}
     → TimedOpening cap (timedStoreOf slots counts tallies balance) found work numbers → Tallied found slots work numbers
-tallied {cap} ready {tallies = tallies} w = record {
+tallied ready w = record {
   readable = readable ready (w .opening);
-  tallies = λ n m e.
-      let o = plainly-found ready (w .opening) n m e in
-      let c = o .contents in
-      w .tallied e
-      ∙ ap (λ (k : ℕ). numberOrder (height k) tallies) (sym (o .size))
-      ∙ ap (numberOrder (height (c .shape .size))) (plain-tallies o)
-      ∙ numbered-tallies cap (ready .roomy) (c .list) (c .shape) (laid (plain-sheet o) .0);
+  tallies = λ n m e. numbers-tallied ready (plainly-found ready (w .opening) n m e) (w .tallied e);
 }
