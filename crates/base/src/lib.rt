@@ -1,4 +1,6 @@
 // What every floor uses: the larger and the smaller of two numbers; definitions and laws in specs/.
+#![tactic(auto)]
+
 ghost use Rattle.std.specs.Prelude.{◌≡◌, min, max};
 
 // The larger of two numbers.

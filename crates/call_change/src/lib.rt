@@ -1,4 +1,6 @@
 // An insert or a delete that no cause before 7 refuses, written into the store once everything is drawn.
+#![tactic(auto)]
+
 ghost use Rattle.std.specs.Prelude.{◌≡◌, ◌+◌, ◌<◌, length};
 ghost use Rattle.call_outcomes.specs.Untallied.{store_of};
 ghost use Rattle.call_change.specs.SheetChange.{entries_before, WriteReady, written};
@@ -9,7 +11,7 @@ use tree_sizes::Size;
 
 // A change for which everything is drawn: the size parameter before and after it, the part that it is confined to, and the entry of an
 // insert.
-#[derive(Drop)]
+#[derive(Clone, Copy)]
 pub struct DrawnChange {
     pub old: usize,
     pub new: usize,

@@ -1,4 +1,6 @@
 // What a call returns, handed over to a program in C: the number of the cause, and two or three values in an answer slice.
+#![tactic(auto)]
+
 ghost use Rattle.std.specs.Prelude.{◌≡◌, ◌≤◌, length};
 ghost use Rattle.call_handed.specs.Handed.{filled};
 

@@ -1,4 +1,6 @@
 // A store looked at for a call: the causes before 7, in their order.
+#![tactic(auto)]
+
 ghost use Rattle.std.specs.Prelude.{◌≡◌, length};
 ghost use Rattle.store_layout.specs.Decode.{numbered};
 ghost use Rattle.store_layout.specs.Room.{CapacityReady};
@@ -12,7 +14,7 @@ use tree_rules::Change;
 use tree_sizes::Size;
 
 // What a store is found to hold: a sheet of n entries with the size parameter m; or why the call is refused.
-#[derive(Drop)]
+#[derive(Clone, Copy)]
 pub enum Opened {
     Sheet { n: usize, m: usize },
     Refused(Cause),

@@ -1,9 +1,11 @@
 // The answers of the calls: what is returned, with the number of the cause where a call is refused.
+#![tactic(auto)]
+
 ghost use Rattle.std.specs.Prelude.{◌≡◌};
 ghost use Rattle.call_outcomes.specs.Returns as returns;
 
 // Why a call or a line is refused, in the order in which the causes decide.
-#[derive(Drop)]
+#[derive(Clone, Copy)]
 pub enum Cause {
     Lengths,
     NotMendable,
@@ -21,7 +23,7 @@ pub enum Cause {
 }
 
 // What a call returns.
-#[derive(Drop)]
+#[derive(Clone, Copy)]
 pub enum Answer {
     Cleared,
     Changed {
@@ -78,7 +80,7 @@ impl Cause {
 }
 
 // What is returned: the number of the cause, or 0, and three values.
-#[derive(Drop)]
+#[derive(Clone, Copy)]
 pub struct Returned {
     pub number: usize,
     pub first: usize,

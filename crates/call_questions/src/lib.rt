@@ -1,4 +1,6 @@
 // Questions about a sheet, answered by what its store was found to hold.
+#![tactic(auto)]
+
 ghost use Rattle.std.specs.Prelude.{◌≡◌, [], ◌<◌, length};
 ghost use Rattle.store_layout.specs.Leaf.{nonzero};
 ghost use Rattle.store_ties.specs.Ties.{placing_in};

@@ -1,4 +1,6 @@
 // The tallies of a sheet as its slots give them: tested, and written after a change.
+#![tactic(auto)]
+
 ghost use Rattle.std.specs.Prelude.{◌≡◌, List, ℕ, ◌*◌, length, replicate};
 ghost use Rattle.base.specs.Lists.{equal_lists};
 ghost use Rattle.tree_sizes.specs.Sizes.{height};

@@ -1,1 +1,2 @@
 // Timed sheets: definitions and laws alone.
+#![tactic(auto)]

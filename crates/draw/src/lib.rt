@@ -1,10 +1,12 @@
 // A draw among m faces from a tape of 32-bit words, in three layers: `draw_at` has a number for the place, `draw_and_advance` a place that is
 // lent, and `draw`, which the sheet draws by, plain parameters again.
+#![tactic(auto)]
+
 ghost use Rattle.std.specs.Prelude.{◌≡◌};
 ghost use Rattle.draw.specs.Draw.{draw_at, tape_place_after, face_of, drawn_of};
 
 // What a draw gives: a face with the place after the last word read, or nothing, where the tape ended first.
-#[derive(Drop)]
+#[derive(Clone, Copy)]
 pub enum Drawn {
     Face { face: usize, next: usize },
     Ended,
@@ -33,7 +35,7 @@ impl Drawn {
 }
 
 // What a draw gives where its place is kept apart: a face, or that the tape ended.
-#[derive(Drop)]
+#[derive(Clone, Copy)]
 pub enum DrawnFace {
     Face(usize),
     TapeEnded,
@@ -55,7 +57,7 @@ impl DrawnFace {
 }
 
 // A place on the tape, which moves on with every word read.
-#[derive(Drop)]
+#[derive(Clone, Copy)]
 pub struct TapePlace {
     pub at: usize,
 }

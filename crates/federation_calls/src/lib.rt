@@ -1,4 +1,6 @@
 // The federation's packed finishing sheet: seven calls on a store of three lent slices.
+#![tactic(auto)]
+
 ghost use Rattle.std.specs.Prelude.{◌≡◌, [], length};
 ghost use Rattle.call_outcomes.specs.Kind.{clear};
 ghost use Rattle.call_outcomes.specs.Outcome.{outcome};

@@ -1,5 +1,7 @@
 // A change of the federation's sheet that no cause before 7 refuses, carried out. Its lists of up to 65,538 entries stand on the stack of its own
 // functions, and not of those that the clubs call.
+#![tactic(auto)]
+
 ghost use Rattle.std.specs.Prelude.{◌≡◌, [], ◌≤◌, length, get_or};
 ghost use Rattle.tree_sizes.specs.Sizes.{height};
 ghost use Rattle.store_order.specs.CountOrder.{number_order};

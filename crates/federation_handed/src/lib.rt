@@ -1,5 +1,7 @@
 // The federation's plain calls as programs in C have them: the number of the cause is returned, and two or three values stand in an answer slice.
 // federation_c exports them.
+#![tactic(auto)]
+
 ghost use Rattle.std.specs.Prelude.{◌≡◌, [], length};
 ghost use Rattle.call_outcomes.specs.Kind as kind;
 ghost use Rattle.call_outcomes.specs.PlainCalls as call;

@@ -1,4 +1,6 @@
 // The federation's store, and the look at it.
+#![tactic(auto)]
+
 ghost use Rattle.std.specs.Prelude.{◌&&◌, ◌≡◌, eqb, length};
 ghost use Rattle.call_outcomes.specs.Plain.{plain_store_of};
 ghost use Rattle.call_outcomes.specs.Federation.{federation};

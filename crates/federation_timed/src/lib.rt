@@ -1,4 +1,6 @@
 // The federation's timed store looked at, and a change of it carried out.
+#![tactic(auto)]
+
 ghost use Rattle.std.specs.Prelude.{◌≡◌, [], length};
 ghost use Rattle.tree_sizes.specs.Sizes.{height};
 ghost use Rattle.store_order.specs.CountOrder.{number_order};

@@ -1,4 +1,6 @@
 // The federation's timed sheet: cleared, and the questions about it, on a store of four lent slices.
+#![tactic(auto)]
+
 ghost use Rattle.std.specs.Prelude.{◌≡◌, [], length};
 ghost use Rattle.call_outcomes.specs.Kind.{clear};
 ghost use Rattle.call_outcomes.specs.Outcome.{outcome};

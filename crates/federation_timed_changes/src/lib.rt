@@ -1,4 +1,6 @@
 // The federation's timed sheet changed: an insert by an entry and a delete at a rank, on a store of four lent slices.
+#![tactic(auto)]
+
 ghost use Rattle.std.specs.Prelude.{◌≡◌, []};
 ghost use Rattle.call_outcomes.specs.Outcome.{outcome};
 ghost use Rattle.call_outcomes.specs.Federation.{federation};

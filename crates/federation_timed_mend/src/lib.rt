@@ -1,5 +1,7 @@
 // A spoiled timed store of the federation mended: the counts, the tallies and the third slice of the timed sheet that has its slots and its size
 // parameter.
+#![tactic(auto)]
+
 ghost use Rattle.std.specs.Prelude.{◌≡◌, []};
 ghost use Rattle.call_outcomes.specs.Federation.{federation};
 ghost use Rattle.call_timed.specs.Timed.{timed_view, timed_store_of, timed_outcome_of};

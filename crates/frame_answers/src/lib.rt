@@ -1,4 +1,6 @@
 // What the program does with the frames that read no word of the tape, but a print, and the answers to them.
+#![tactic(auto)]
+
 ghost use Rattle.std.specs.Prelude.{◌≡◌, [], ◌≤◌, length, get_or, replicate};
 ghost use Rattle.call_outcomes.specs.Kind.{clear};
 ghost use Rattle.call_outcomes.specs.Outcome.{outcome};
@@ -15,7 +17,7 @@ ghost use Rattle.frame_answers.specs.Gives.{kept_of, Gives, ClearGives};
 use call_outcomes::Cause;
 
 // What a step gives: how many bytes of answer stand at the front of the output, and how many words wait now.
-#[derive(Drop)]
+#[derive(Clone, Copy)]
 pub struct Stepped {
     pub bytes: usize,
     pub waiting: usize,

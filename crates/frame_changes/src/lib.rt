@@ -1,4 +1,6 @@
 // What the program does with an insert and a delete, whose words are read off the tape, and the answers to them.
+#![tactic(auto)]
+
 ghost use Rattle.std.specs.Prelude.{[], ◌≤◌, length, take};
 ghost use Rattle.call_outcomes.specs.Outcome.{outcome};
 ghost use Rattle.call_outcomes.specs.PlainCalls as call;

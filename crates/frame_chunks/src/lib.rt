@@ -1,4 +1,6 @@
 // The lines that end in a chunk of the input, answered one after the other.
+#![tactic(auto)]
+
 ghost use Rattle.std.specs.Prelude.{◌+◌, ◌≤◌, ◌<◌, length, take};
 ghost use Rattle.call_outcomes.specs.Plain.{plain_store_of};
 ghost use Rattle.frame_answers.specs.Step.{TapeReady, longest};
@@ -12,7 +14,7 @@ const LONGEST: usize = 69012;
 
 // Where to go on in the chunk, how many bytes of a line that is still open and words of the tape are held, and how many bytes of answers
 // stand at the front of the output.
-#[derive(Drop)]
+#[derive(Clone, Copy)]
 pub struct Progress {
     pub next: usize,
     pub have: usize,

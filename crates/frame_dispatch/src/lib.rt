@@ -1,4 +1,6 @@
 // A frame, answered by its kind.
+#![tactic(auto)]
+
 ghost use Rattle.std.specs.Prelude.{◌≡◌, ◌≤◌, length};
 ghost use Rattle.call_outcomes.specs.Plain.{plain_store_of};
 ghost use Rattle.frame_lines.specs.Frame.{frame_of};

@@ -1,9 +1,11 @@
 // The lines of an input that comes in chunks, collected one after the other into a line buffer.
+#![tactic(auto)]
+
 ghost use Rattle.std.specs.Prelude.{◌≡◌};
 ghost use Rattle.frame_input.specs.Lines.{left, collecting};
 
 // Where to go on in the chunk, how many bytes the line buffer holds, and whether the line has ended.
-#[derive(Drop)]
+#[derive(Clone, Copy)]
 pub struct Collected {
     pub next: usize,
     pub have: usize,

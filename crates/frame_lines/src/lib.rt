@@ -1,9 +1,11 @@
 // A line of bytes, without its LF, read as a frame.
+#![tactic(auto)]
+
 ghost use Rattle.std.specs.Prelude.{◌≡◌, ◌+◌, ◌<◌, ◌≤◌, length};
 ghost use Rattle.frame_lines.specs.Frame.{is_hex_digit, hex_value, is_hex_line, field, of_length, insert_of, delete_of, read_of, tape_of, place_of, form_of, frame_of, kind, words_of, word_at};
 
 // What a line is: one of the seven frames, or none. A tape carries the number of its words.
-#[derive(Drop)]
+#[derive(Clone, Copy)]
 pub enum Frame {
     Insert { rank: usize, entry: u64 },
     Delete { rank: usize },

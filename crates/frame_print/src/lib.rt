@@ -1,4 +1,6 @@
 // The lines that answer a print: the sheet, leaf by leaf.
+#![tactic(auto)]
+
 ghost use Rattle.std.specs.Prelude.{[], ◌+◌, ◌*◌, ◌<◌, ◌≤◌, length};
 ghost use Rattle.call_outcomes.specs.Outcome.{outcome};
 ghost use Rattle.call_outcomes.specs.PlainCalls as call;

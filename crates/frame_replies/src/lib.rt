@@ -1,4 +1,6 @@
 // The lines that the program answers, written into an output slice from a place on. Each function gives the place behind what it wrote.
+#![tactic(auto)]
+
 ghost use Rattle.std.specs.Prelude.{◌≡◌, [], ◌∷◌, ◌++◌, ◌+◌, ◌*◌, ◌<◌, ◌≤◌, length};
 ghost use Rattle.frame_replies.specs.Reply.{hex_digit, digits, entry_digits, header, line_of, brief, entries, placed, sheet, leaf};
 ghost use Rattle.frame_replies.specs.Wrote.{Wrote};

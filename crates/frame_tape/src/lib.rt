@@ -1,4 +1,6 @@
 // The words of the tape that wait: words that were read leave it, and those of a tape line go behind the others.
+#![tactic(auto)]
+
 ghost use Rattle.std.specs.Prelude.{◌≡◌, ◌++◌, ◌+◌, ◌≤◌, length, get_or, take, drop};
 ghost use Rattle.frame_lines.specs.Frame.{frame_of, words_of};
 ghost use Rattle.frame_tape.specs.Tape.{read_off, line_words};

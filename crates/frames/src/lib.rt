@@ -1,4 +1,6 @@
 // The frames of the program: one step on a line, and the reading of a line for programs in C.
+#![tactic(auto)]
+
 ghost use Rattle.std.specs.Prelude.{◌≡◌};
 ghost use Rattle.call_outcomes.specs.Plain.{plain_store_of};
 ghost use Rattle.frame_lines.specs.Frame.{kind_of};

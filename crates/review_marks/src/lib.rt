@@ -1,1 +1,2 @@
 // A theory: the starred cases of document 01 (specs/).
+#![tactic(auto)]

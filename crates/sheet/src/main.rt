@@ -1,4 +1,6 @@
 // The program `sheet`: reads frames from standard input, a line each, and answers them on standard output.
+#![tactic(auto)]
+
 ghost use Rattle.std.specs.Prelude.{◌≡◌, false, ◌<◌, ◌≤◌, length, take};
 ghost use Rattle.call_outcomes.specs.Plain.{plain_store_of};
 ghost use Rattle.frame_answers.specs.Gives.{kept_of};
@@ -27,7 +29,7 @@ const INPUT: usize = 65536;
 const OUTPUT: usize = 262144;
 
 // How many bytes of the line that is still open and words of the tape are held, and whether a write has failed.
-#[derive(Drop)]
+#[derive(Clone, Copy)]
 struct State {
     have: usize,
     waiting: usize,
@@ -35,7 +37,7 @@ struct State {
 }
 
 // How many bytes of the input were read, and whether it has ended.
-#[derive(Drop)]
+#[derive(Clone, Copy)]
 struct Chunk {
     bytes: usize,
     last: bool,

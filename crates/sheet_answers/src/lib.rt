@@ -1,1 +1,2 @@
 // A theory crate: definitions and laws in specs/, no code.
+#![tactic(auto)]

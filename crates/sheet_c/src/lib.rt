@@ -1,4 +1,6 @@
 // The clubs' calls for programs in C: the number of the cause is returned, and two or three values stand in an answer slice.
+#![tactic(auto)]
+
 ghost use Rattle.std.specs.Prelude.{◌≡◌, [], length};
 ghost use Rattle.call_outcomes.specs.Kind.{clear};
 ghost use Rattle.call_outcomes.specs.PlainCalls as call;

@@ -1,5 +1,7 @@
 // Makes each of the seven calls and meets each of the causes 1 to 7 and 16, and prints what each call returns: the number and two values; behind a
 // read and a board also its output of two elements.
+#![tactic(auto)]
+
 use call_outcomes::Answer;
 
 // The slots of the store.

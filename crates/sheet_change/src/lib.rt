@@ -1,4 +1,6 @@
 // A drawn change written into slots and counts of a sheet of any capacity, by lists for up to 1,024 entries; and what became of a change.
+#![tactic(auto)]
+
 ghost use Rattle.std.specs.Prelude.{◌≡◌, ◌≤◌, length, get_or};
 ghost use Rattle.call_outcomes.specs.Untallied.{store_of};
 ghost use Rattle.call_change.specs.SheetChange.{entries_before, WriteReady, written};
@@ -10,7 +12,7 @@ use tree_counts::Part;
 
 // What became of a change: it is made, and leaves so many entries after so many words read, the size parameter m, and all slots outside of the
 // part; or the tape ended, and nothing is written.
-#[derive(Drop)]
+#[derive(Clone, Copy)]
 pub enum Made {
     Done {
         n: usize,

@@ -1,4 +1,6 @@
 // The clubs' store looked at: its counts and tallies, which have 16 bits, are widened for the calls of any capacity.
+#![tactic(auto)]
+
 ghost use Rattle.std.proofs.Math.Option.{some};
 ghost use Rattle.std.specs.Prelude.{◌≡◌, ◌*◌, ◌^◌, ◌≤◌, length};
 ghost use Rattle.tree_sizes.specs.Sizes.{height};

@@ -1,4 +1,6 @@
 // A change of the clubs' sheet that no cause before 7 refuses, carried out.
+#![tactic(auto)]
+
 ghost use Rattle.std.specs.Prelude.{◌≡◌, ◌&&◌, not, List, [], ℕ, ◌*◌, ◌^◌, ◌<◌, ◌≤◌, eqb, length, get_or};
 ghost use Rattle.tree_sizes.specs.Sizes.{height};
 ghost use Rattle.store_order.specs.CountOrder.{count_order, number_order};

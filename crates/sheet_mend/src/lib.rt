@@ -1,4 +1,6 @@
 // A spoiled store of the clubs mended: the counts and the tallies of the sheet that has its slots and its size parameter.
+#![tactic(auto)]
+
 ghost use Rattle.std.specs.Prelude.{◌≡◌, [], length, get_or};
 ghost use Rattle.call_outcomes.specs.Untallied.{store_of};
 ghost use Rattle.call_outcomes.specs.Plain.{plain_view, plain_store_of, plain_outcome_of};

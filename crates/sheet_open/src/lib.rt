@@ -1,4 +1,6 @@
 // A plain store of any capacity looked at: the causes 1 and 2.
+#![tactic(auto)]
+
 ghost use Rattle.std.specs.Prelude.{true, ◌&&◌, ◌≡◌, eqb, length};
 ghost use Rattle.std.proofs.Math.Option.{some};
 ghost use Rattle.tree_sizes.specs.Sizes.{height};

@@ -1,4 +1,6 @@
 // The clubs' counts converted from the order of the range numbers to the tree order, and back.
+#![tactic(auto)]
+
 ghost use Rattle.std.specs.Prelude.{◌≡◌};
 ghost use Rattle.call_outcomes.specs.Clubs.{clubs};
 ghost use Rattle.call_orders.specs.Conversion.{to_tree, to_number, conversion};

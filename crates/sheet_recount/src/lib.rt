@@ -1,4 +1,6 @@
 // The sheet with given slots and size parameter, in a store of any capacity: its counts are what the slots give.
+#![tactic(auto)]
+
 ghost use Rattle.std.specs.Prelude.{◌≡◌, length, replicate};
 ghost use Rattle.store_layout.specs.Room.{CapacityReady};
 ghost use Rattle.call_outcomes.specs.Untallied.{store_of};

@@ -1,4 +1,6 @@
 // The third slice of a timed sheet, written and tested by the slots.
+#![tactic(auto)]
+
 ghost use Rattle.std.specs.Prelude.{◌≡◌, ◌++◌, ◌+◌, ◌*◌, ◌^◌, ◌≤◌, ◌<◌, length, take, drop};
 ghost use Rattle.base.specs.Lists.{equal_lists};
 ghost use Rattle.tree_sizes.specs.Sizes.{height};

@@ -1,4 +1,6 @@
 // The third slice of a timed sheet brought up to date after a change of one part: what is written goes by the part and not by the sheet.
+#![tactic(auto)]
+
 ghost use Rattle.std.specs.Prelude.{◌≡◌, ◌+◌, ◌*◌, ◌^◌, ◌≤◌, ◌<◌, length};
 ghost use Rattle.tree_sizes.specs.Sizes.{height};
 ghost use Rattle.store_rows.specs.Row.{Row};

@@ -1,4 +1,6 @@
 // The ranks of a notice board tested, and their entries read out in one walk along the slots.
+#![tactic(auto)]
+
 ghost use Rattle.std.specs.Prelude.{◌≡◌, false, ◌++◌, ◌≤◌, length, drop};
 ghost use Rattle.store_layout.specs.Leaf.{nonzero};
 ghost use Rattle.store_board.specs.Board.{falls_below, falls, some_from, entries_at};

@@ -1,4 +1,6 @@
 // The counts of a store, read and written in their order: with `store_tree_read`, `store_tree_write` and `store_rows` the only code that knows it.
+#![tactic(auto)]
+
 ghost use Rattle.std.specs.Prelude.{◌≡◌, ◌≢◌, ◌*◌, ◌^◌, ◌<◌, ◌≤◌, length, replicate};
 ghost use Rattle.tree_sizes.specs.Sizes.{height};
 ghost use Rattle.store_order.specs.Copied.{put_to, put_from, RestCopied};

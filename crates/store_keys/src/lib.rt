@@ -1,4 +1,6 @@
 // Entries of a timed sheet compared by their keys.
+#![tactic(auto)]
+
 ghost use Rattle.std.specs.Prelude.{◌≡◌, [], ◌∷◌, ◌≤◌, length, take};
 ghost use Rattle.store_layout.specs.Leaf.{nonzero};
 ghost use Rattle.store_keys.specs.Key as keys;

@@ -1,4 +1,6 @@
 // The layout of a sheet in its store: leaves laid out and read back.
+#![tactic(auto)]
+
 ghost use Rattle.std.specs.Prelude.{◌≡◌, ◌++◌, ◌+◌, ◌*◌, ◌^◌, ◌<◌, length, get_or, take, drop};
 ghost use Rattle.store_layout.specs.Leaf.{spread, nonzero};
 ghost use Rattle.store_layout.specs.Quotient.{divided, added, position_of};
@@ -7,7 +9,7 @@ ghost use Rattle.store_layout.specs.Pass.{written_to, InFront};
 ghost use Rattle.store_layout.specs.Ready.{LeafReady, LeavesReady, GatherReady, Gathered};
 
 // What a store has room for.
-#[derive(Drop)]
+#[derive(Clone, Copy)]
 pub struct Capacity {
     pub entries: usize,
     pub slots: usize,
@@ -15,7 +17,7 @@ pub struct Capacity {
 }
 
 // A quotient, rounded down, and its remainder.
-#[derive(Drop)]
+#[derive(Clone, Copy)]
 pub struct Quotient {
     pub whole: usize,
     pub rest: usize,
@@ -84,7 +86,7 @@ pub fn first_position(s: usize, n: usize, step: Quotient) -> Quotient
 }
 
 // A leaf: so many slots from `from` on, and so many entries, which stand in a list from `at` on.
-#[derive(Drop)]
+#[derive(Clone, Copy)]
 pub struct Leaf {
     pub from: usize,
     pub slots: usize,
@@ -93,7 +95,7 @@ pub struct Leaf {
 }
 
 // The entry of a leaf that comes next, and its position.
-#[derive(Drop)]
+#[derive(Clone, Copy)]
 struct Next {
     k: usize,
     position: Quotient,

@@ -1,5 +1,7 @@
 // The test whether slots are leaves with given numbers of entries: leaf by leaf, and by masks of the taken slots for leaves of the sizes that
 // the clubs' sheets and the federation's list have.
+#![tactic(auto)]
+
 ghost use Rattle.std.specs.Prelude.{◌≡◌, ◌+◌, ◌*◌, ◌-◌, ◌≤◌, ◌<◌, take, drop};
 ghost use Rattle.store_leaf_test.specs.Ready.{LeafTestReady, LeavesTestReady};
 ghost use Rattle.store_leaf_test.specs.Check.{leaf_test, leaves_test};

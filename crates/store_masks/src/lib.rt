@@ -1,5 +1,7 @@
 // Which slots of a leaf are taken, as one number; and what that number is for leaves of the sizes that the clubs' sheets and the federation's
 // list have, by tables.
+#![tactic(auto)]
+
 ghost use Rattle.std.specs.Prelude.{◌≡◌, ◌+◌, ◌*◌, ◌-◌, ◌^◌, ◌≤◌, ◌<◌, length, take, drop};
 ghost use Rattle.store_masks.specs.Mask.{is_taken, taken};
 

@@ -1,4 +1,6 @@
 // The part of a sheet that a change is confined to, laid out anew.
+#![tactic(auto)]
+
 ghost use Rattle.std.specs.Prelude.{◌≡◌, ◌+◌, ◌*◌, ◌^◌, ◌<◌, ◌≤◌, length};
 ghost use Rattle.tree_sizes.specs.Sizes.{height};
 ghost use Rattle.store_part.specs.LayPart.{part_entries, PartReady, EntriesReady, lay_entries, lay_part, LayReady};

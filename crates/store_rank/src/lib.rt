@@ -1,4 +1,6 @@
 // The leaf in which the entry of a rank stands, found by the counts of the ranges.
+#![tactic(auto)]
+
 ghost use Rattle.std.specs.Prelude.{◌≡◌, ◌*◌, ◌^◌, ◌≤◌, ◌<◌, length};
 ghost use Rattle.tree_sizes.specs.Sizes.{height};
 ghost use Rattle.store_rank.specs.LeafOf.{start_of};
@@ -7,7 +9,7 @@ use store_layout::count_at;
 use tree_sizes::Size;
 
 // The first slot of a leaf, the rank of an entry among those from this slot on, and the range number of the leaf.
-#[derive(Drop)]
+#[derive(Clone, Copy)]
 pub struct Start {
     pub slot: usize,
     pub rank: usize,

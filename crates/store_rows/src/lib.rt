@@ -1,5 +1,7 @@
 // Numbers by range number, written to their places in the order of a store: only those of the ranges that have one of given leaves, so that what a
 // change writes goes by its part and not by the sheet.
+#![tactic(auto)]
+
 ghost use Rattle.std.specs.Prelude.{◌≡◌, ◌+◌, ◌*◌, ◌^◌, ◌≤◌, ◌<◌, length};
 ghost use Rattle.store_order.specs.CountOrder.{count_place, count_order};
 ghost use Rattle.store_rows.specs.Above.{PlacedBut};

@@ -1,4 +1,6 @@
 // Retired boats and scoring boats, by bit 62 of their entries.
+#![tactic(auto)]
+
 ghost use Rattle.std.specs.Prelude.{◌≡◌, [], ◌∷◌, ◌+◌, ◌≤◌, length, take, drop};
 ghost use Rattle.store_layout.specs.Leaf.{nonzero};
 ghost use Rattle.store_scoring.specs.Scoring.{retired_bit, tally, none_retired};

@@ -1,4 +1,6 @@
 // The search for a key in a timed sheet: down the ranges by the third slice, and then through one leaf.
+#![tactic(auto)]
+
 ghost use Rattle.std.specs.Prelude.{◌≡◌, [], ◌∷◌, ◌+◌, ◌*◌, ◌^◌, ◌≤◌, ◌<◌, length, take, drop};
 ghost use Rattle.tree_sizes.specs.Sizes.{height};
 ghost use Rattle.store_layout.specs.Leaf.{nonzero};
@@ -11,14 +13,14 @@ use store_layout::count_at;
 use tree_sizes::Size;
 
 // The rank of a key among the entries of a sheet, and whether an entry with this key is there.
-#[derive(Drop)]
+#[derive(Clone, Copy)]
 pub struct Sought {
     pub rank: usize,
     pub present: bool,
 }
 
 // The first slot of a leaf, and the number of entries that stand before it.
-#[derive(Drop)]
+#[derive(Clone, Copy)]
 struct Start {
     slot: usize,
     before: usize,

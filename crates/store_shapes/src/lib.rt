@@ -1,4 +1,6 @@
 // Every sheet of a list, laid out by the number of its shape.
+#![tactic(auto)]
+
 ghost use Rattle.std.specs.Prelude.{◌≡◌, length, take, replicate};
 ghost use Rattle.tree_counts.specs.Counts.{shape_counts};
 ghost use Rattle.tree_shapes.specs.Shapes.{shape_at};

@@ -1,4 +1,6 @@
 // Single steps on slices: an entry put in or taken out, slots zeroed, entries read out.
+#![tactic(auto)]
+
 ghost use Rattle.std.specs.Prelude.{◌≡◌, ◌∷◌, ◌++◌, ◌+◌, ◌-◌, ◌<◌, ◌≤◌, length, take, drop, replicate};
 ghost use Rattle.store_layout.specs.Leaf.{nonzero};
 ghost use Rattle.tree_rules.specs.Rules.{InReach};

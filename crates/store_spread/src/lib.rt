@@ -1,5 +1,7 @@
 // Leaves laid out from left to right by tables of which entry stands in which slot, for leaves of the sizes that the clubs' sheets have; others
 // by the rule.
+#![tactic(auto)]
+
 ghost use Rattle.std.specs.Prelude.{◌≡◌, ◌++◌, ◌+◌, ◌*◌, ◌<◌, length, take, drop};
 ghost use Rattle.base.specs.Lists.{total};
 ghost use Rattle.store_layout.specs.Leaf.{spread};

@@ -1,4 +1,6 @@
 // The tallies of a sheet: for each range the number of its scoring entries.
+#![tactic(auto)]
+
 ghost use Rattle.std.specs.Prelude.{◌≡◌, true, ◌↔◌, ◌+◌, ◌*◌, ◌^◌, ◌≤◌, ◌<◌, length};
 ghost use Rattle.tree_sizes.specs.Sizes as sizes;
 ghost use Rattle.tree_sizes.specs.Sizes.{height};

@@ -1,4 +1,6 @@
 // Tallies compared with the counts, the tally of the whole sheet, and the tallies of a sheet without retired boats: its counts, with 0 at number 0.
+#![tactic(auto)]
+
 ghost use Rattle.std.specs.Prelude.{◌≡◌, ◌∷◌, ◌<◌, length, get_or, drop};
 ghost use Rattle.base.specs.Lists.{equal_lists};
 

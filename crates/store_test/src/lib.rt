@@ -1,4 +1,6 @@
 // The test whether a store is a sheet: its counts, its leaves, and that everything unused is zero.
+#![tactic(auto)]
+
 ghost use Rattle.std.specs.Prelude.{◌≡◌, ◌+◌, ◌-◌, ◌*◌, ◌/◌, ◌^◌, ◌<◌, ◌≤◌, ◌&&◌, length, ◌==◌, nat_le, nat_lt, slice_index};
 ghost use Rattle.store_layout.specs.Decode.{sheet_test};
 ghost use Rattle.store_layout.specs.Room.{CapacityReady};

@@ -1,4 +1,6 @@
 // Boats tied at the line: the tied group of a scoring boat, found in the slots beside hers.
+#![tactic(auto)]
+
 ghost use Rattle.std.specs.Prelude.{◌≡◌, ◌^◌, ◌<◌, length, take};
 ghost use Rattle.store_layout.specs.Leaf.{nonzero};
 ghost use Rattle.store_scoring.specs.Scoring.{tally};
@@ -7,7 +9,7 @@ ghost use Rattle.store_ties.specs.Ties.{tie_bit, tied_in, placing_in};
 ghost use Rattle.store_ties.specs.Steps.{InSlot, Scores};
 
 // The first place of a tied group, the sum of its places, and the number of its boats.
-#[derive(Drop)]
+#[derive(Clone, Copy)]
 pub struct Placing {
     pub place: usize,
     pub sum: usize,

@@ -1,4 +1,6 @@
 // The counts of a tree's ranges, copied from a work array by range number to their places in a store.
+#![tactic(auto)]
+
 ghost use Rattle.std.specs.Prelude.{◌≡◌, ◌≤◌, length};
 ghost use Rattle.store_order.specs.TreeOrder.{tree_order};
 ghost use Rattle.store_order.specs.Copied.{put_from};

@@ -1,4 +1,6 @@
 // Counts and tallies of 16 bits in a store, and the same numbers with 32 bits, in which the calls of every capacity work.
+#![tactic(auto)]
+
 ghost use Rattle.std.specs.Prelude.{◌≡◌, ◌∷◌, ◌^◌, ◌<◌, length, get_or, drop};
 ghost use Rattle.base.specs.Lists.{Every, equal_lists};
 

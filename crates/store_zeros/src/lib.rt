@@ -1,4 +1,6 @@
 // Whether every number of a slice is 0.
+#![tactic(auto)]
+
 ghost use Rattle.std.specs.Prelude.{◌≡◌, ◌+◌, ◌≤◌, length, take, drop};
 ghost use Rattle.store_zeros.specs.AllZero.{all_zero};
 

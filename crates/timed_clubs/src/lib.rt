@@ -1,4 +1,6 @@
 // The clubs' timed store looked at, and a change of it carried out.
+#![tactic(auto)]
+
 ghost use Rattle.std.specs.Prelude.{◌≡◌, [], length};
 ghost use Rattle.call_outcomes.specs.Outcome.{outcome};
 ghost use Rattle.call_outcomes.specs.PlainCalls.{changing};

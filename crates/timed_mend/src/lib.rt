@@ -1,4 +1,6 @@
 // A spoiled timed store of the clubs mended: the counts, the tallies and the third slice of the timed sheet that has its slots and its size parameter.
+#![tactic(auto)]
+
 ghost use Rattle.std.specs.Prelude.{◌≡◌, []};
 ghost use Rattle.call_outcomes.specs.Clubs.{clubs};
 ghost use Rattle.call_timed.specs.Timed.{timed_view, timed_store_of, timed_outcome_of};

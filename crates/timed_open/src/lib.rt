@@ -1,4 +1,6 @@
 // A timed store of any capacity looked at: its lengths, and cause 11.
+#![tactic(auto)]
+
 ghost use Rattle.std.specs.Prelude.{◌&&◌, ◌≡◌, ◌^◌, ◌≤◌, ◌<◌, eqb, length};
 ghost use Rattle.tree_sizes.specs.Sizes as sizes;
 ghost use Rattle.timed_open.specs.TimedLook.{timed_test, timed_look, LookReady};

@@ -1,4 +1,6 @@
 // The counts of a tree of balance ranks, and a range of it rebuilt; a change of its entries, and the part that the change is confined to.
+#![tactic(auto)]
+
 ghost use Rattle.std.specs.Prelude.{◌≡◌, ◌≢◌, suc, ◌^◌, ◌<◌, length, set, replicate};
 ghost use Rattle.draw_shares.specs.Tape.{run_at};
 ghost use Rattle.tree_sizes.specs.Sizes.{height, candidates, IsCandidate};
@@ -11,7 +13,7 @@ use tree_rules::Change;
 use tree_sizes::Size;
 
 // The range that a change is confined to: its number, its depth, and the rank of the entry in it.
-#[derive(Drop)]
+#[derive(Clone, Copy)]
 pub struct Part {
     pub range: usize,
     pub depth: usize,
@@ -50,7 +52,7 @@ pub fn count_after(change: Change, n: usize) -> usize
 }
 
 // What the rebuilding of a range comes to: the place of the next word, or the tape ended.
-#[derive(Drop)]
+#[derive(Clone, Copy)]
 pub enum Rebuilt {
     Done(usize),
     Ended,

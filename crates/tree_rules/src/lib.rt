@@ -1,4 +1,6 @@
 // The rules of insert and delete: what a change does to the candidates of a range, and the size step.
+#![tactic(auto)]
+
 ghost use Rattle.std.specs.Prelude.{◌≡◌, ◌+◌, ◌^◌, ◌<◌};
 ghost use Rattle.draw_shares.specs.Tape.{run_at};
 ghost use Rattle.tree_rules.specs.Compare.{compare};
@@ -9,14 +11,14 @@ ghost use Rattle.tree_rules.specs.Step.{CompareReady, stepped_as};
 use draw::Drawn;
 
 // What a call does to the entries of a range: one comes in at a rank, or the one at a rank goes out.
-#[derive(Drop)]
+#[derive(Clone, Copy)]
 pub enum Change {
     Insert(usize),
     Delete(usize),
 }
 
 // The candidates of a range before and after a change: the same entries, or one leaves and one enters.
-#[derive(Drop)]
+#[derive(Clone, Copy)]
 pub enum Comparison {
     Unchanged,
     Swapped { out: usize, into: usize },
@@ -84,7 +86,7 @@ pub fn compare(change: Change, n: usize, c: usize) -> Comparison
 }
 
 // What the size step gives: the size parameter is kept, or set anew, with the place of the next word; or the tape ended.
-#[derive(Drop)]
+#[derive(Clone, Copy)]
 pub enum Stepped {
     Kept { next: usize },
     Anew { m: usize, next: usize },

@@ -1,4 +1,6 @@
 // Every shape that N entries can have, by its number: how many there are of each size parameter, and the counts of each.
+#![tactic(auto)]
+
 ghost use Rattle.std.specs.Prelude.{◌≡◌, ◌+◌, ◌^◌, ◌<◌, ◌≤◌, length};
 ghost use Rattle.tree_counts.specs.Counts.{shape_counts};
 ghost use Rattle.tree_shapes.specs.Shapes.{shape_at, tree_count, shape_count};

@@ -1,4 +1,6 @@
 // The size rules of document 01: what the size parameter M gives, and where the candidates of a range stand.
+#![tactic(auto)]
+
 ghost use Rattle.std.specs.Prelude.{◌≡◌, ◌^◌, ◌<◌, ◌≤◌};
 ghost use Rattle.tree_sizes.specs.Sizes.{digits, height, leaf_slots, slots, candidates, half_candidates, window_start};
 
@@ -11,7 +13,7 @@ pub fn power(k: usize) -> usize
 }
 
 // The size parameter M of a sheet.
-#[derive(Drop)]
+#[derive(Clone, Copy)]
 pub struct Size {
     pub m: usize,
 }

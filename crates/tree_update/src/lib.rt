@@ -1,4 +1,6 @@
 // The counts of a sheet, changed by an entry that comes in or goes out: the size step, then the walk, or everything is rebuilt.
+#![tactic(auto)]
+
 ghost use Rattle.std.specs.Prelude.{length};
 ghost use Rattle.draw_shares.specs.Tape.{run_at};
 ghost use Rattle.tree_rules.specs.Rules as rules;

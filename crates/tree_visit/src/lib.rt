@@ -1,4 +1,6 @@
 // The rule at one range: the candidates before and after a change compared, and the draw for the entering entry.
+#![tactic(auto)]
+
 ghost use Rattle.std.specs.Prelude.{◌≡◌};
 ghost use Rattle.tree_rules.specs.Compare.{compare};
 ghost use Rattle.tree_rules.specs.Step.{CompareReady};
@@ -9,7 +11,7 @@ use tree_rules::{Change, Comparison};
 
 // What the rule gives at a range that the walk visits: it passes on below, the balance entry leaves, the entering entry becomes the
 // balance entry, or the tape ended. With the place of the next word.
-#[derive(Drop)]
+#[derive(Clone, Copy)]
 pub enum Visited {
     Pass { next: usize },
     Rebuild { next: usize },

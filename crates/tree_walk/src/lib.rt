@@ -1,4 +1,6 @@
 // The walk down a tree of balance ranks, where the size parameter is kept: the counts changed by an entry that comes in or goes out.
+#![tactic(auto)]
+
 ghost use Rattle.std.specs.Prelude.{◌≡◌, ◌^◌, ◌<◌, length};
 ghost use Rattle.draw_shares.specs.Tape.{run_at};
 ghost use Rattle.tree_rules.specs.Rules as rules;
@@ -13,7 +15,7 @@ use tree_sizes::Size;
 use tree_visit::{Visited, visit};
 
 // What a change of the counts comes to: the size parameter, the part to lay out anew and the place of the next word; or the tape ended.
-#[derive(Drop)]
+#[derive(Clone, Copy)]
 pub enum Updated {
     Done { m: usize, part: Part, next: usize },
     Ended,
@@ -35,7 +37,7 @@ pub fn finish(m: usize, part: Part, rebuilt: Rebuilt) -> Updated
 
 // A range on the walk: its number, its depth, the levels from it to the leaves, its number of entries before the change, and the change
 // to them.
-#[derive(Drop)]
+#[derive(Clone, Copy)]
 struct Range {
     k: usize,
     depth: usize,
@@ -97,7 +99,7 @@ impl Range {
 
 // The range that the walk stops at, and what its visit gave: it is rebuilt, its halves are, or the tape ended. Where it is passed, a leaf is
 // reached.
-#[derive(Drop)]
+#[derive(Clone, Copy)]
 struct Stop {
     range: Range,
     visited: Visited,
