@@ -1,2 +1,0 @@
--- What the walks of `draw_and_advance` and `draw` share.
-mod PlaceCell
