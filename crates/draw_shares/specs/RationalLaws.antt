@@ -88,8 +88,8 @@ nat_inv (suc m) h = simp as-fraction (same_value (times (whole (suc m)) (unit (s
 
 unit_mul : (m n : ℕ) → unit (m * n) ≐ times (unit m) (unit n)
 unfolding unit
-unit_mul zero n = rw (native.Mathlib.Nat.zero_mul n) (omega arith)
-unit_mul (suc m) zero = rw (native.Mathlib.Nat.mul_zero (suc m)) (omega arith)
+unit_mul zero n = rw (native.Mathlib.Nat.zero-mul n) (omega arith)
+unit_mul (suc m) zero = rw (native.Mathlib.Nat.mul-zero (suc m)) (omega arith)
 unit_mul (suc m) (suc n) = rw (mul-suc (suc m) n, native.Mathlib.Nat.add-suc (suc m * n) m) (omega arith)
 
 pub inv_mul : (m n : ℕ) → inv (m * n) ≡ inv m ⊗ inv n

@@ -46,7 +46,7 @@ sum_front (suc m) h = ap (λ (t : Rational). t ⊕ h (suc m)) (sum_front m h) �
 
 pub sum_split : (m n : ℕ) (h : ℕ → Rational) → sum (m + n) h ≡ sum m h ⊕ sum n (λ i. h (m + i))
 unfolding sum
-sum_split m zero h = simp (native.Mathlib.Nat.add_zero, add_zero)
+sum_split m zero h = simp (native.Mathlib.Nat.add-zero, add_zero)
 sum_split m (suc n) h = rw (add-suc m n) (rw (sum_split m n h) (add_assoc (sum m h) (sum n (λ i. h (m + i))) (h (m + n))))
 
 -- The i-th of the numbers other than j.
