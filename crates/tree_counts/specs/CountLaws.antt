@@ -33,6 +33,8 @@ holds_read (suc levels) counts k n (node b l r) has w =
       holds_read levels counts (2 * k) b l has.0 w.1,
       holds_read levels counts (2 * k + 1) (n - b) r has.1 w.2,
     )
+holds_read zero counts k n (node b l r) has w = elim has [ ]
+holds_read (suc levels) counts k n leaf has w = elim has [ ]
 
 pub holds_same : (levels : ℕ) (xs ys : List ℕ) (k n : ℕ) (t : Tree) → Perfect levels t → SameBelow levels k xs ys → Holds xs k n t
     → Holds ys k n t
@@ -43,6 +45,8 @@ holds_same (suc levels) xs ys k n (node b l r) has same w = (
   holds_same levels xs ys (2 * k) b l has.0 (λ d j h u. same (suc d) j (omega arith) (below_left k d j u)) w.1,
   holds_same levels xs ys (2 * k + 1) (n - b) r has.1 (λ d j h u. same (suc d) j (omega arith) (below_right k d j u)) w.2,
 )
+holds_same zero xs ys k n (node b l r) has same w = elim has [ ]
+holds_same (suc levels) xs ys k n leaf has same w = elim has [ ]
 
 -- What two lists of counts hold decides the numbers of the range.
 pub holds_agree : (levels : ℕ) (xs ys : List ℕ) (k n : ℕ) (t : Tree) → Perfect levels t → Holds xs k n t → Holds ys k n t
@@ -56,6 +60,8 @@ holds_agree (suc levels) xs ys k n (node b l r) has v w (suc d) j h u =
     (λ a. holds_agree levels xs ys (2 * k) b l has.0 v.1 w.1 d j (omega arith) a)
     (λ a. holds_agree levels xs ys (2 * k + 1) (n - b) r has.1 v.2 w.2 d j (omega arith) a)
     (below_halves k d j u)
+holds_agree zero xs ys k n (node b l r) has v w (suc d) j h u = elim has [ ]
+holds_agree (suc levels) xs ys k n leaf has v w (suc d) j h u = elim has [ ]
 
 -- ---- writing a range
 
@@ -78,6 +84,8 @@ write_other (suc levels) counts k n (node b l r) j has other =
     (λ d h u. other (suc d) (omega arith) (below_right k d j u))
     ∙ write_other levels (set counts k n) (2 * k) b l j has.0 (λ d h u. other (suc d) (omega arith) (below_left k d j u))
     ∙ get_or-set_other counts k j n 0 (λ e. other 0 (omega arith) (rw e (below_itself k)))
+write_other zero counts k n (node b l r) j has other = elim has [ ]
+write_other (suc levels) counts k n leaf j has other = elim has [ ]
 
 -- What was written stands there.
 pub write_holds : (levels : ℕ) (counts : List ℕ) (k n : ℕ) (t : Tree) → Perfect levels t → 0 < k
@@ -99,6 +107,8 @@ write_holds (suc levels) counts k n (node b l r) has pos room =
           (write_holds levels own (2 * k) b l has.0 (omega arith) (omega arith)),
       write_holds levels left (2 * k + 1) (n - b) r has.1 (omega arith) (omega arith),
     )
+write_holds zero counts k n (node b l r) has pos room = elim has [ ]
+write_holds (suc levels) counts k n leaf has pos room = elim has [ ]
 
 -- ---- what stands outside a range
 
@@ -165,6 +175,10 @@ write_over (suc levels) (node b l r) (node b' l' r') counts k n n' pos p p' =
         write_set r (left l b (set counts k n)) (2 * k + 1) (n - b) k n' (not_right k pos)
         ∙ ap (λ (c : List ℕ). right r (n - b) c)
         (write_set l (set counts k n) (2 * k) b k n' (not_left k pos) ∙ ap (λ (c : List ℕ). left l b c) (set-set counts k n n'))
+write_over zero leaf (node b' l' r') counts k n n' pos p p' = elim p' [ ]
+write_over zero (node b l r) _ counts k n n' pos p p' = elim p [ ]
+write_over (suc levels) leaf _ counts k n n' pos p p' = elim p [ ]
+write_over (suc levels) (node b l r) leaf counts k n n' pos p p' = elim p' [ ]
 
 -- To write what the counts hold changes nothing.
 write_held : (counts : List ℕ) (k n : ℕ) (t : Tree) → Holds counts k n t → write_tree counts k n t ≡ counts

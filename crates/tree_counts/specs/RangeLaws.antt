@@ -89,3 +89,5 @@ unfolding Perfect Balanced
 balanced_perfect M zero d n leaf w = tt
 balanced_perfect M (suc levels) d n (node b l r) w =
     (balanced_perfect M levels (suc d) b l w.1, balanced_perfect M levels (suc d) (n - b) r w.2)
+balanced_perfect M zero d n (node b l r) w = elim w [ ]
+balanced_perfect M (suc levels) d n leaf w = elim w [ ]
