@@ -149,6 +149,8 @@ module _ (M : ℕ) (list slots words : List ℕ)
         range_balance levels (suc d) (2 * i + 1) (2 * k + 1) (start + 2 ^ levels) (first + b) (n - b) r (omega arith) (rw (pow-succ' 2 d) (omega arith))
             (rw (pow-succ' 2 d) (omega arith)) (omega arith) halves.1 w.2 behind,
       )
+  range_balance zero d i k start first n (node b l r) depth is inside place fits w at = elim w [ ]
+  range_balance (suc levels) d i k start first n leaf depth is inside place fits w at = elim w [ ]
 
 -- ---- the slots of a sheet
 

@@ -33,6 +33,8 @@ module _ (list : List ℕ) where
     balance_same levels xs ys (2 * k) first l has.0 (λ d j h u. same (suc d) j (omega arith) (below_left k d j u)) w.1,
     balance_same levels xs ys (2 * k + 1) (first + b) r has.1 (λ d j h u. same (suc d) j (omega arith) (below_right k d j u)) w.2,
   )
+  balance_same zero xs ys k first (node b l r) has same w = elim has [ ]
+  balance_same (suc levels) xs ys k first leaf has same w = elim has [ ]
 
   -- What two lists of words hold decides the words of the ranges above the leaves.
   pub balance_agree : (levels : ℕ) (xs ys : List ℕ) (k first : ℕ) (t : Tree) → Perfect levels t → HoldsBalance list xs k first t
@@ -45,6 +47,8 @@ module _ (list : List ℕ) where
       (λ a. balance_agree levels xs ys (2 * k) first l has.0 v.1 w.1 d j (omega arith) a)
       (λ a. balance_agree levels xs ys (2 * k + 1) (first + b) r has.1 v.2 w.2 d j (omega arith) a)
       (below_halves k d j u)
+  balance_agree zero xs ys k first (node b l r) has v w d j h u = elim has [ ]
+  balance_agree (suc levels) xs ys k first leaf has v w d j h u = elim has [ ]
 
   -- ---- writing the balance entries of a range
 
@@ -68,6 +72,8 @@ module _ (list : List ℕ) where
       (λ d h u. other (suc d) (omega arith) (below_right k d j u))
       ∙ balance_other levels (set words k x) (2 * k) first l j has.0 (λ d h u. other (suc d) (omega arith) (below_left k d j u))
       ∙ get_or-set_other words k j x 0 (λ e. other 0 (omega arith) (rw e (below_itself k)))
+  balance_other zero words k first (node b l r) j has other = elim has [ ]
+  balance_other (suc levels) words k first leaf j has other = elim has [ ]
 
   -- What was written stands there.
   pub balance_written : (levels : ℕ) (words : List ℕ) (k first : ℕ) (t : Tree) → Perfect levels t → 0 < k
@@ -90,6 +96,8 @@ module _ (list : List ℕ) where
             (balance_written levels own (2 * k) first l has.0 (omega arith) (omega arith)),
         balance_written levels left (2 * k + 1) (first + b) r has.1 (omega arith) (omega arith),
       )
+  balance_written zero words k first (node b l r) has pos room = elim has [ ]
+  balance_written (suc levels) words k first leaf has pos room = elim has [ ]
 
 -- ---- the third slice of a shape
 

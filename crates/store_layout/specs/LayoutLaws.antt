@@ -28,6 +28,8 @@ length_leaf_counts zero n leaf has = refl
 length_leaf_counts (suc levels) n (node b l r) has =
     length-append (leaf_counts b l) (leaf_counts (n - b) r)
     ∙ rw (length_leaf_counts levels b l has.0, length_leaf_counts levels (n - b) r has.1, pow-succ' 2 levels) (omega arith)
+length_leaf_counts zero n (node b l r) has = elim has [ ]
+length_leaf_counts (suc levels) n leaf has = elim has [ ]
 
 -- The leaves of a range stand one after the other at the end of its counts.
 pub holds_leaves : (levels : ℕ) (counts : List ℕ) (k n : ℕ) (t : Tree) → Perfect levels t → (k + 1) * 2 ^ levels ≤ length counts
@@ -49,6 +51,8 @@ holds_leaves (suc levels) counts k n (node b l r) has room w =
       holds_leaves levels counts (2 * k) b l has.0 (omega arith) w.1,
       holds_leaves levels counts (2 * k + 1) (n - b) r has.1 (omega arith) w.2,
     )
+holds_leaves zero counts k n (node b l r) has room w = elim has [ ]
+holds_leaves (suc levels) counts k n leaf has room w = elim has [ ]
 
 module _ (M : ℕ) where
   pub leaf_counts_total : (levels d n : ℕ) (t : Tree) → Fits M levels d n → Balanced M levels d n t → total (leaf_counts n t) ≡ n
@@ -59,6 +63,8 @@ module _ (M : ℕ) where
       total_append (leaf_counts b l) (leaf_counts (n - b) r)
       ∙ rw (leaf_counts_total levels (suc d) b l halves.0 w.1, leaf_counts_total levels (suc d) (n - b) r halves.1 w.2)
       (omega (arith, candidate_below n (candidates M d) b (fits_count M levels d n fits) w.0))
+  leaf_counts_total zero d n (node b l r) fits w = elim w [ ]
+  leaf_counts_total (suc levels) d n leaf fits w = elim w [ ]
 
   -- No leaf has more entries than slots.
   pub leaf_counts_fit : (levels d n : ℕ) (t : Tree) → Fits M levels d n → Balanced M levels d n t
@@ -70,6 +76,8 @@ module _ (M : ℕ) where
       every_append (λ c. c ≤ leaf_slots M) (leaf_counts b l) (leaf_counts (n - b) r)
       (leaf_counts_fit levels (suc d) b l halves.0 w.1)
       (leaf_counts_fit levels (suc d) (n - b) r halves.1 w.2)
+  leaf_counts_fit zero d n (node b l r) fits w = elim w [ ]
+  leaf_counts_fit (suc levels) d n leaf fits w = elim w [ ]
 
 -- ---- leaves one after the other
 

@@ -39,6 +39,8 @@ balanced_test_lem M (suc levels) d n (node b l r) w =
       balanced_test_lem M levels (suc d) b l w.1,
       balanced_test_lem M levels (suc d) (n - b) r w.2,
     )
+balanced_test_lem M zero d n (node b l r) w = elim w [ ]
+balanced_test_lem M (suc levels) d n leaf w = elim w [ ]
 
 pub balanced_sound : (M levels d n : ℕ) (t : Tree) → balanced_test M levels d n t ≡ true → Balanced M levels d n t
 unfolding Balanced balanced_test

@@ -102,6 +102,8 @@ module _ (M : ℕ) (counts : List ℕ) where
       (leaf_of_below levels counts (2 * k + 1) (rank - b))
       (range_found levels (suc d) (2 * k + 1) (n - b) (rank - b) r (drop b list) rest halves.1 w.2 holds.2
       (length-drop b list ∙ rw number) (every_drop (λ e. 0 < e) b list pos))))
+  range_found zero d k n rank (node b l r) list rest fits w holds number pos = elim w [ ]
+  range_found (suc levels) d k n rank leaf list rest fits w holds number pos = elim w [ ]
 
 -- ---- the slots of a sheet
 

@@ -124,6 +124,8 @@ module _ (M : ℕ) where
         (every_take (λ e. 0 < e) b entries pos) holds.1)
         (range_told levels (suc d) (2 * k + 1) (n - b) r (drop b entries) halves.1 w.2 (length-drop b entries ∙ rw number)
         (every_drop (λ e. 0 < e) b entries pos) holds.2))
+    range_told zero d k n (node b l r) entries fits w number pos holds = elim w [ ]
+    range_told (suc levels) d k n leaf entries fits w number pos holds = elim w [ ]
 
 -- The counts are such numbers.
 counts_of : (M levels d n : ℕ) (words : List ℕ) (k : ℕ) (t : Tree) (entries : List ℕ) → Fits M levels d n → Balanced M levels d n t → length entries ≡ n
@@ -137,6 +139,8 @@ counts_of M (suc levels) d n words k (node b l r) entries fits w number holds =
       counts_of M levels (suc d) b words (2 * k) l (take b entries) halves.0 w.1 (length-take-le b entries (omega arith)) holds.1,
       counts_of M levels (suc d) (n - b) words (2 * k + 1) r (drop b entries) halves.1 w.2 (length-drop b entries ∙ rw number) holds.2,
     )
+counts_of M zero d n words k (node b l r) entries fits w number holds = elim w [ ]
+counts_of M (suc levels) d n words k leaf entries fits w number holds = elim w [ ]
 
 -- ---- the slots of a sheet
 

@@ -44,6 +44,8 @@ module _ (M : ℕ) where
         ap (tree_in s levels) (sym (append-nil left)) ∙ tree_laid levels (suc d) b l (take b entries) [] halves.0 w.1 front_length front_entries,
         tree_laid levels (suc d) (n - b) r (drop b entries) behind halves.1 w.2 (length-drop b entries ∙ rw number) (every_drop (λ e. 0 < e) b entries pos),
       ))
+  tree_laid zero d n (node b l r) entries behind fits w number pos = elim w [ ]
+  tree_laid (suc levels) d n leaf entries behind fits w number pos = elim w [ ]
 
 -- A sheet has the contents that its slots and its size parameter give.
 pub contents_laid : (cap : Capacity) (list : List ℕ) (s : Shape) → IsContents cap list s

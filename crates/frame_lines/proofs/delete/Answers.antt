@@ -1,0 +1,14 @@
+-- `delete` meets its contract: the line has 6 digits, and each number is the digits of its field.
+use mathlib.Core.Path.{sym, ap, ◌∙◌}
+use Rattle.frame_lines.specs.declared.Frame.TheVariants.{Delete}
+use Rattle.frame_lines.specs.Frame.{delete_of}
+use Rattle.frame_lines.specs.FrameLaws.{length_is, length_other}
+use Rattle.frame_lines.proofs.delete.Goals as goal
+
+pub returns-then-line-ne6 : goal.returns-then-line-ne6
+unfolding delete_of
+returns-then-line-ne6 c = sym (length_other _ 6 _ c.if-line-ne6.true)
+
+pub returns : goal.returns
+unfolding delete_of
+returns c = ap Delete c.number-rank.ensures ∙ sym (length_is _ 6 _ c.if-line-ne6.false)
