@@ -11,7 +11,7 @@ hex_digit-requires c = omega arith
 
 pub loop-left-preserved : goal.loop-left-preserved
 loop-left-preserved c =
-    rw c.hex_digit_lem.ensures (digits_next _ _ _ _ c.loop-left.invariant c.requires c.loop-left-test.true)
+    rw c.hex_digit.ensures (digits_next _ _ _ _ c.loop-left.invariant c.requires c.loop-left-test.true)
 
 pub returns : goal.returns
 returns c = digits_done _ _ _ _ c.loop-left.invariant c.requires (omega (arith, c.loop-left-test.false))

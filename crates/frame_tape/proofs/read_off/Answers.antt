@@ -12,7 +12,7 @@ loop-i-smaller c = omega (arith, c.loop-i.invariant.kept, c.loop-i-test.true)
 
 pub loop-i-preserved : goal.loop-i-preserved
 loop-i-preserved c =
-    read_off_next _ _ h.before.before.requires _ _ c.loop.invariant c.loop-i-test.true c.word_or_zero.ensures
+    read_off_next _ _ c.requires _ _ c.loop-i.invariant c.loop-i-test.true c.word_or_zero.ensures
 
 pub returns : goal.returns
 returns c = read_off_done _ _ c.requires _ c.loop-i.invariant c.loop-i-test.false

@@ -8,8 +8,7 @@ use Rattle.store_balance.proofs.is_balance.Goals as goal
 
 pub returns : goal.returns
 returns c =
-    let start = w.before.before.before.before.before in
-    let a = start.args in
-    let words : length a.work.now ≡ length a.balance.now = start.requires.1.1 in
+    let a = c.args in
+    let words : length a.work.now ≡ length a.balance.now = c.requires.work in
     c.same_words.ensures
-    ∙ ap (equal_lists a.balance.now) (c.write-balance.ensures ∙ ap (λ (n : ℕ). balance_in a.size.m n a.slots.now) words)
+    ∙ ap (equal_lists a.balance.now) (c.write_balance.ensures ∙ ap (λ (n : ℕ). balance_in a.size.m n a.slots.now) words)

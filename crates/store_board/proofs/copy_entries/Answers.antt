@@ -36,7 +36,7 @@ among c =
     omega (arith, inside c, (in_order c).0, ap length c.loop-k.invariant.2, length-drop c.loop-k.seen (nonzero (slots c)))
 
 pub loop-k-init : goal.loop-k-init
-loop-k-init c = let p = c.requires in (omega arith, omega arith, p.0, p.1.0, reading_none (omega arith))
+loop-k-init c = (omega arith, omega arith, c.requires.from, c.requires.order, reading_none (omega arith))
 
 pub overflow_sub-rank : goal.overflow_sub-rank
 overflow_sub-rank c = (in_order (goal.at.overflow_sub-rank c).In-loop-k).0

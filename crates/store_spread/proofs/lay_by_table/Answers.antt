@@ -38,41 +38,37 @@ bounds-list-end-in-loop-j c = behind (goal.at.bounds-list-end-in-loop-j c).After
 
 pub overflow_mul-n : goal.overflow_mul-n
 overflow_mul-n c =
-    let s = l.before.before.before.before.before in
     omega (
       arith,
-      rw (← s.requires.1.1) at
-          (row_room s.requires.0 s.requires.1.0 c.loop.invariant.0 c.loop.invariant.1 c.loop-j-test.true c.count_at.ensures),
+      rw (← c.requires.table) at
+          (row_room c.requires.ready c.requires.room c.loop-j.invariant.0 c.loop-j.invariant.1 c.loop-j-test.true c.count_at-n.ensures),
     )
 
 pub spread_leaf-requires : goal.spread_leaf-requires
 spread_leaf-requires c =
-    let s = l.before.before.before.before.before in
-    rw c.loop.invariant.2
-    (table_ready s.requires.0 s.requires.1.0 c.loop.invariant.0 c.loop.invariant.1 c.loop-j-test.true c.count_at.ensures s.requires.1.1)
+    rw c.loop-j.invariant.2
+    (table_ready c.requires.ready c.requires.room c.loop-j.invariant.0 c.loop-j.invariant.1 c.loop-j-test.true c.count_at-n.ensures c.requires.table)
 
 pub offset_bounds-list-end-in-loop-j-2 : goal.offset_bounds-list-end-in-loop-j-2
-offset_bounds-list-end-in-loop-j-2 c = omega (arith, room (goal.at.offset_bounds-list-end-in-loop-j-2 c).In-loop-j)
+offset_bounds-list-end-in-loop-j-2 c = omega (arith, room (goal.at.offset_bounds-list-end-in-loop-j-2 c).After-count_at-n)
 
 pub bounds-list-end-in-loop-j-2 : goal.bounds-list-end-in-loop-j-2
-bounds-list-end-in-loop-j-2 c = search (rules, behind (goal.at.bounds-list-end-in-loop-j-2 c).In-loop-j)
+bounds-list-end-in-loop-j-2 c = search (rules, behind (goal.at.bounds-list-end-in-loop-j-2 c).After-count_at-n)
 
 pub overflow_add-to : goal.overflow_add-to
 overflow_add-to c =
-    let s = l.before.before.before.before.before in
     omega (
       arith,
-      slots-left s.requires.0 c.loop.invariant.0 c.loop.invariant.1 c.loop-j-test.true c.count_at.ensures,
+      slots-left c.requires.ready c.loop-j.invariant.0 c.loop-j.invariant.1 c.loop-j-test.true c.count_at-n.ensures,
     )
 
 pub loop-j-preserved : goal.loop-j-preserved
-loop-j-preserved c =
-    let s = l.before.before.before.before.before in (
-      laid_next s.requires.0 s.requires.1.0 c.loop.invariant.0 c.loop.invariant.1 c.loop-j-test.true c.count_at.ensures
-          (c.spread_leaf.ensures ∙ rw c.loop.invariant.2),
-      omega arith,
-      restored c.loop.list (c.loop.at + c.count_at.result) ∙ c.loop.invariant.2,
-    )
+loop-j-preserved c = (
+  laid_next c.requires.ready c.requires.room c.loop-j.invariant.0 c.loop-j.invariant.1 c.loop-j-test.true c.count_at-n.ensures
+      (c.spread_leaf.ensures ∙ rw c.loop-j.invariant.2),
+  omega arith,
+  restored c.loop-j.list (c.loop-j.at + c.count_at-n.result) ∙ c.loop-j.invariant.2,
+)
 
 pub returns : goal.returns
 returns c = laid_all c.requires.ready c.loop-j.invariant.0 c.loop-j.invariant.1 (omega arith)

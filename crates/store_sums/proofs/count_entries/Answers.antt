@@ -66,4 +66,4 @@ add_rows-requires c = ready (goal.at.add_rows-requires c).After-power-leaves _ c
 
 pub returns : goal.returns
 returns c =
-    (c.add_rows.ensures.all (ready (goal.at.returns c).After-power-leaves _ c.count_leaves.ensures), same_length c)
+    (c.add_rows.ensures.all (ready (goal.at.returns c).After-power-leaves _ c.count_leaves.ensures), (c.add_rows.ensures.kept ∙ c.count_leaves.ensures.kept ∙ length-set c.args.counts.now 0 c.args.size.m))

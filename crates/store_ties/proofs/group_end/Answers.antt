@@ -35,13 +35,13 @@ overflow_add-at-in-loop-end c = omega (arith, inside (goal.at.overflow_add-at-in
 
 pub returns-then-not-is_tied : goal.returns-then-not-is_tied
 returns-then-not-is_tied c =
-    let k = c.is_Tied in
+    let k = c.is_tied in
     on-untied c.loop-end.invariant (inside (goal.at.returns-then-not-is_tied c).In-loop-end) (omega (arith, c.if-next-ne0.true)) (sym k.ensures ∙ c.if-not-is_tied.true)
 
 -- A turn at a boat with the bit.
 tied : (c : Else-not-is_tied)
     → tie_bit (get_or c.args.slots.now c.loop-end.at 0) ≡ true
-tied c = let k = c.is_Tied in sym k.ensures ∙ c.if-not-is_tied.false
+tied c = let k = c.is_tied in sym k.ensures ∙ c.if-not-is_tied.false
 
 pub loop-end-smaller-then-not-is_retired : goal.loop-end-smaller-then-not-is_retired
 loop-end-smaller-then-not-is_retired c = omega (arith, inside (goal.at.loop-end-smaller-then-not-is_retired c).In-loop-end)

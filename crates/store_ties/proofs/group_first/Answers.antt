@@ -58,7 +58,7 @@ passed c =
 
 pub returns-then-not-is_tied : goal.returns-then-not-is_tied
 returns-then-not-is_tied c =
-    let k = c.is_Tied in
+    let k = c.is_tied in
     back_first (rw (sym k.ensures ∙ c.if-not-is_tied.true, and_false) at (passed (goal.at.returns-then-not-is_tied c).Joined-not-is_retired).first)
 
 pub loop-first-smaller-else-not-is_tied : goal.loop-first-smaller-else-not-is_tied
@@ -66,7 +66,7 @@ loop-first-smaller-else-not-is_tied c = omega (arith, inside (goal.at.loop-first
 
 pub loop-first-preserved-else-not-is_tied : goal.loop-first-preserved-else-not-is_tied
 loop-first-preserved-else-not-is_tied c =
-    let k = c.is_Tied in
+    let k = c.is_tied in
     rw (sym k.ensures ∙ c.if-not-is_tied.false, and_true) at (passed (goal.at.loop-first-preserved-else-not-is_tied c).Joined-not-is_retired)
 
 pub loop-first-smaller : goal.loop-first-smaller

@@ -37,8 +37,8 @@ pub shared-requires : goal.shared-requires
 shared-requires c =
     let tied = tied_in (nonzero c.args.slots.now) in
     let number = c.requires.number in
-    let high = end_most tied c.args.scoring c.args.before (omega (arith, scores_below (scores (goal.at.shared-requires c).Else-is_retired), number)) in record { some = omega (arith, c.group_first_lem.ensures, first_most tied c.args.before, c.group_end_lem.ensures, end_above tied c.args.scoring c.args.before); few = omega (arith, c.group_end_lem.ensures, high, c.requires.few) }
+    let high = end_most tied c.args.scoring c.args.before (omega (arith, scores_below (scores (goal.at.shared-requires c).Else-is_retired), number)) in record { some = omega (arith, c.group_first-first.ensures, first_most tied c.args.before, c.group_end-end.ensures, end_above tied c.args.scoring c.args.before); few = omega (arith, c.group_end-end.ensures, high, c.requires.few) }
 
 pub returns : goal.returns
 returns c =
-    scoring_found (scores (goal.at.returns c).Else-is_retired) c.group_first_lem.ensures c.group_end_lem.ensures c.requires.number c.shared.ensures
+    scoring_found (scores (goal.at.returns c).Else-is_retired) c.group_first-first.ensures c.group_end-end.ensures c.requires.number c.shared.ensures
