@@ -1,6 +1,6 @@
 -- The digits of a number are upper-case hexadecimal, and reading them gives the number back.
 use Rattle.std.specs.Prelude.{◌≡◌, refl, true, List, [], ◌∷◌, ◌++◌, ℕ, zero, suc, ◌+◌, ◌/◌, ◌%◌, ◌≤◌, ◌<◌, ◌^◌, length, get_or}
-use Rattle.std.proofs.Common.{◌∙◌, append_assoc, append-nil, arith, pow-suc, add_assoc, get_or-append-add}
+use Rattle.std.proofs.Common.{subst, sym, ◌∙◌, append_assoc, append-nil, arith, pow-suc, add_assoc, get_or-append-add}
 use Rattle.std.proofs.lemmas.List.{get_or_at}
 use borrow.Author.Tests.{lt-ltb}
 use Rattle.base.specs.BoolLaws.{and_both}
@@ -57,14 +57,16 @@ pub field_digits : (xs ys : List ℕ) (n c v : ℕ) → length xs ≡ n → v < 
 unfolding field digits
 field_digits xs ys n zero v at fits = omega arith
 field_digits xs ys n (suc c) v at fits =
-    let rest = hex_digit (v % 16) ∷ ys in
+    let rest = (hex_digit (v % 16) ∷ []) ++ ys in
     let high : v / 16 < 16 ^ c = omega (arith, rw (pow-suc 16 c) at fits) in
     let low : get_or (xs ++ (digits c (v / 16) ++ rest)) (n + c) 0 ≡ hex_digit (v % 16) =
     rw (← at)
     (get_or-append-add xs (digits c (v / 16) ++ rest) c 0
     ∙ get_or_at (digits c (v / 16)) (hex_digit (v % 16)) ys 0 c (length_digits c (v / 16))) in
-    rw (append_assoc (digits c (v / 16)) (hex_digit (v % 16) ∷ []) ys, field_digits xs rest n c (v / 16) at high, low, value_digit (v % 16) (omega arith))
-    (omega arith)
+    subst
+    (λ (w : List ℕ). field (xs ++ w) n (suc c) ≡ v)
+    (sym (append_assoc (digits c (v / 16)) (hex_digit (v % 16) ∷ []) ys))
+    (rw (field_digits xs rest n c (v / 16) at high, low, value_digit (v % 16) (omega arith)) (omega arith))
 
 -- A field that stands behind some bytes.
 pub field_behind : (xs ys : List ℕ) (n i c : ℕ) → length xs ≡ n → field (xs ++ ys) (n + i) c ≡ field ys i c

@@ -1,6 +1,6 @@
 -- Decoding what encoding writes gives it back, for every answer line and every frame whose numbers fit their fields.
 use Rattle.std.specs.Prelude.{◌≡◌, refl, true, ℕ, zero, suc, ◌+◌, ◌-◌, ◌*◌, ◌/◌, ◌%◌, ◌≤◌, ◌<◌, ◌^◌, length, get_or}
-use Rattle.std.proofs.Common.{ap, ap₂, ◌∙◌, arith}
+use Rattle.std.proofs.Common.{ap, ap₂, subst, ◌∙◌, arith}
 use mathlib.Core.List.{List, [], ◌∷◌, ◌++◌, append_assoc, append-nil}
 use Rattle.std.proofs.Math.ListN.{length-append}
 use Rattle.base.specs.Cases.{if_eq}
@@ -61,7 +61,10 @@ entries_back (e ∷ list) xs n at fits =
     let next : length (xs ++ digits 16 e) ≡ n + 16 = length-append xs (digits 16 e) ∙ rw (at, length_digits 16 e) in
     ap₂ (λ (y : ℕ) (ys : List ℕ). y ∷ ys)
     (field_digits xs (entry_digits list) n 16 e at fits.0)
-    (rw (← append_assoc xs (digits 16 e) (entry_digits list)) (entries_back list (xs ++ digits 16 e) (n + 16) next fits.1))
+    (subst
+    (λ (w : List ℕ). entries_from w (n + 16) (length list) ≡ list)
+    (append_assoc xs (digits 16 e) (entry_digits list))
+    (entries_back list (xs ++ digits 16 e) (n + 16) next fits.1))
 
 -- As many as there are.
 all_back : (list xs : List ℕ) (n : ℕ) → length xs ≡ n → EntriesFit list

@@ -39,6 +39,8 @@ leaf_counts_some M (suc levels) d n (node b l r) large fits w =
     let halves = fits_halves M levels d n fits b w.0 in
     every_append (λ c. 0 < c) (leaf_counts b l) (leaf_counts (n - b) r) (leaf_counts_some M levels (suc d) b l large halves.0 w.1)
     (leaf_counts_some M levels (suc d) (n - b) r large halves.1 w.2)
+leaf_counts_some M zero d n (node b l r) large fits w = elim w [ ]
+leaf_counts_some M (suc levels) d n leaf large fits w = elim w [ ]
 
 -- Where a leaf stands before some others, the sheet has more than one.
 leaves_more : (h : ℕ) {first last : ℕ} (j : ℕ) → Row h first last → 2 ^ h + j < first → 0 < h

@@ -137,3 +137,5 @@ module _ (M : ℕ) (counts balance whole : List ℕ) (x : ℕ) where
       (keys_before 0 x b list rising within least) (leaf_for_below levels counts balance x (2 * k + 1) (before + b))
       (range_found levels (suc d) (2 * k + 1) (n - b) (first + b) (before + b) r (drop b list) rest halves.1 w.2 holds.2 balances.2
       (length-drop b list ∙ rw number) (every_drop (λ e. 0 < e) b list pos) (rise_drop 0 b list rising) (part_right first b list same))))
+  range_found zero d k n first before (node b l r) list rest fits w holds balances number pos rising same = elim w [ ]
+  range_found (suc levels) d k n first before leaf list rest fits w holds balances number pos rising same = elim w [ ]

@@ -52,6 +52,8 @@ module _ (M : ℕ) (list words : List ℕ) where
         holds_tallies levels (suc d) (2 * k) first b l halves.0 w.1 (rw front at holds.1),
         holds_tallies levels (suc d) (2 * k + 1) (first + b) (n - b) r halves.1 w.2 (rw (tally_rest b own, back) at holds.2),
       )
+  holds_tallies zero d k first n (node b l r) fits w holds = elim w [ ]
+  holds_tallies (suc levels) d k first n leaf fits w holds = elim w [ ]
 
 pub tallies_count : (list words : List ℕ) (k first n : ℕ) (t : Tree) → HoldsTallies list words k first n t
     → get_or words k 0 ≡ tally (take n (drop first list))
@@ -91,6 +93,8 @@ module _ (counts : List ℕ) where
           depth_total levels (suc d) (2 * k + 1) (n - b) r e halves.1 w.2 (omega arith) holds.2 (omega arith),
         )
         (omega arith)
+    depth_total zero d k n (node b l r) (suc e) fits w room holds h = elim w [ ]
+    depth_total (suc levels) d k n leaf (suc e) fits w room holds h = elim w [ ]
 
     module _ (list words : List ℕ) where
       -- Each range j below the range k: the counts before it at its depth give the rank of its first entry.
@@ -119,6 +123,8 @@ module _ (counts : List ℕ) where
           rw (behind, depth_split k e i, left, rank)
           (tally-below levels (suc d) (2 * k + 1) (first + b) (n - b) r e j halves.1 w.2 (omega arith) holds.2 tallies.2 (omega arith) u))
           (below_halves k e j below)
+      tally-below zero d k first n (node b l r) (suc e) j fits w room holds tallies h below = elim w [ ]
+      tally-below (suc levels) d k first n leaf (suc e) j fits w room holds tallies h below = elim w [ ]
 
 module _ (cap : Capacity) (roomy : Roomy cap) (list : List ℕ) (s : Shape) (w : IsContents cap list s) where
   -- The tallies hold from the root on, which has all entries.

@@ -31,6 +31,8 @@ unfolding Perfect tally_tree
 tally_perfect zero entries leaf has = tt
 tally_perfect (suc levels) entries (node b l r) has =
     (tally_perfect levels (take b entries) l has.0, tally_perfect levels (drop b entries) r has.1)
+tally_perfect zero entries (node b l r) has = elim has [ ]
+tally_perfect (suc levels) entries leaf has = elim has [ ]
 
 write_tallies_lem : (words : List ℕ) (k : ℕ) (entries : List ℕ) (t : Tree)
     → write_tallies words k entries t ≡ write_tree words k (tally entries) (tally_tree entries t)

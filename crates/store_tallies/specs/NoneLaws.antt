@@ -67,6 +67,8 @@ none_tree M (suc levels) d n (node b l r) entries fits w number none =
       none_tree M levels (suc d) b l (take b entries) halves.0 w.1 front parts.0,
       none_tree M levels (suc d) (n - b) r (drop b entries) halves.1 w.2 (length-drop b entries ∙ rw number) parts.1,
     )
+none_tree M zero d n (node b l r) entries fits w number none = elim w [ ]
+none_tree M (suc levels) d n leaf entries fits w number none = elim w [ ]
 
 module _ (cap : Capacity) (roomy : Roomy cap) (list : List ℕ) (s : Shape) (w : IsContents cap list s) (none : none_retired list ≡ true) where
   none_range : range_tallies cap.counts list s ≡ set (shape_counts cap.counts (length list) s) 0 0

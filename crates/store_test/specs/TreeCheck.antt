@@ -60,3 +60,5 @@ tree_test_lem counts M (suc levels) d k n (node b l r) w h =
       tree_test_lem counts M levels (suc d) (2 * k) b l w.1 h.1,
       tree_test_lem counts M levels (suc d) (2 * k + 1) (n - b) r w.2 h.2,
     )
+tree_test_lem counts M zero d k n (node b l r) w h = elim w [ ]
+tree_test_lem counts M (suc levels) d k n leaf w h = elim w [ ]

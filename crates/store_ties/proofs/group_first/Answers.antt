@@ -12,7 +12,7 @@ use Rattle.store_ties.specs.Ties.{tie_bit}
 use Rattle.store_ties.specs.Steps.{entries_before, end_tied, Back}
 use Rattle.store_ties.specs.StepLaws.{back_first, back_zero}
 use Rattle.store_ties.specs.WalkLaws.{scores_most, back_start, slot_before, back_empty, back-retired, back-scoring}
-use Rattle.store_ties.proofs.group_first.Goals.{In-loop-first, Joined-not-is_retired}
+use Rattle.store_ties.proofs.group_first.Goals.{In-loop-first, Joined-not-is_retired, then-not-is_retired, else-not-is_retired}
 use Rattle.store_ties.proofs.group_first.Goals as goal
 
 pub overflow_add-at : goal.overflow_add-at
@@ -51,10 +51,12 @@ passed : (c : Joined-not-is_retired)
     Back a.slots.now a.before at c.if-not-is_retired.first (end_tied true (entries_before a.slots.now at) && tie_bit (get_or a.slots.now at 0))
 passed c =
     let k = c.is_retired in
-    ⊎_elim
-    (λ w. rw w.1 (back-scoring (turn (goal.at.Joined-not-is_retired c).In-loop-first) (omega (arith, c.if-last-ne0.true)) (sym k.ensures ∙ not-true k.result w.0.taken)))
-    (λ w. rw w.1 (back-retired (turn (goal.at.Joined-not-is_retired c).In-loop-first) (omega (arith, c.if-last-ne0.true)) (sym k.ensures ∙ not-false k.result w.0.left)))
-    c.if-not-is_retired.branch
+    elim c.if-not-is_retired.branch [
+      | then-not-is_retired w ↦
+          rw w.first-is (back-scoring (turn (goal.at.Joined-not-is_retired c).In-loop-first) (omega (arith, c.if-last-ne0.true)) (sym k.ensures ∙ w.if-not-is_retired.true))
+      | else-not-is_retired w ↦
+          rw w.first-is (back-retired (turn (goal.at.Joined-not-is_retired c).In-loop-first) (omega (arith, c.if-last-ne0.true)) (sym k.ensures ∙ w.if-not-is_retired.false))
+    ]
 
 pub returns-then-not-is_tied : goal.returns-then-not-is_tied
 returns-then-not-is_tied c =

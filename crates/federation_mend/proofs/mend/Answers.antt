@@ -1,0 +1,64 @@
+-- `mend` meets its contract.
+use mathlib.Core.Path.{◌≡◌, refl, sym, ◌∙◌}
+use mathlib.Core.Bool.{true}
+use native.Mathlib.Omega.{arith}
+use lib.ListN.{get_or}
+use Rattle.call_outcomes.specs.Untallied.{store_of}
+use Rattle.call_outcomes.specs.Plain.{plain_view, PlainLengths, plain_store_of}
+use Rattle.call_outcomes.specs.PlainLaws.{right_plain}
+use Rattle.call_outcomes.specs.Federation.{federation}
+use Rattle.call_outcomes.specs.FederationLaws.{federation_ready}
+use Rattle.call_open.specs.Opening.{OpenedSheet}
+use Rattle.sheet_open.specs.LengthLaws.{lengths_tested}
+use Rattle.sheet_recount.specs.FoundLaws.{fresh_number, same_counts}
+use Rattle.sheet_recount.specs.MendLaws.{mend_lengths, mend_none, mend-made}
+use Rattle.federation_mend.proofs.mend.Goals.{Else-not-right_lengths, In-Sheet}
+use Rattle.federation_mend.proofs.mend.Goals as goal
+
+-- The start; and the lengths are right.
+abbrev start : Else-not-right_lengths → tie.Start
+start c = (goal.at.Else-not-right_lengths c).Start
+
+right : (c : Else-not-right_lengths) → let a = (start c).args in (plain_view federation).right_lengths (plain_store_of a.slots.now a.counts.now a.tallies.now) ≡ true
+right c = sym (lengths_tested federation _ _ _) ∙ sym c.right_lengths.ensures ∙ c.if-not-right_lengths.false
+
+lengths : (c : Else-not-right_lengths) → let a = (start c).args in PlainLengths federation (plain_store_of a.slots.now a.counts.now a.tallies.now)
+lengths c = right_plain federation _ (right c)
+
+-- The sheet that was found.
+found : (c : In-Sheet) → let a = (start (goal.at.In-Sheet c).Else-not-right_lengths).args in
+    OpenedSheet federation (store_of a.slots.now c.recount.new.fresh) c.in-Sheet.n c.in-Sheet.size c.recount.new.work
+    × (c.in-Sheet.size ≡ get_or a.counts.now 0 0)
+found c =
+    (rw c.capacity-cap.ensures at c.recount.ensures).found _ _ c.in-Sheet.is
+
+pub returns-then-not-right_lengths : goal.returns-then-not-right_lengths
+returns-then-not-right_lengths c =
+    mend_lengths federation_ready _ _ _ (sym (lengths_tested federation _ _ _) ∙ sym c.right_lengths.ensures ∙ c.if-not-right_lengths.true)
+
+pub bounds-counts-0 : goal.bounds-counts-0
+bounds-counts-0 c = omega (arith, (lengths (goal.at.bounds-counts-0 c).Else-not-right_lengths).sheet.counts)
+
+pub recount-requires : goal.recount-requires
+recount-requires c =
+    rw c.capacity-cap.ensures record { ready = federation_ready; slots = (lengths (goal.at.recount-requires c).Else-not-right_lengths).sheet.slots; work = refl; fresh = refl }
+
+pub tally-requires : goal.tally-requires
+tally-requires c =
+    rw c.capacity-cap.ensures record { ready = federation_ready; sheet = (found (goal.at.tally-requires c).In-Sheet).0; numbers = refl; tallies = (lengths (goal.at.tally-requires c).Else-not-right_lengths).tallies }
+
+pub copy_ranges-requires : goal.copy_ranges-requires
+copy_ranges-requires c =
+    let l = (lengths (goal.at.copy_ranges-requires c).Else-not-right_lengths).sheet.counts in
+    record { lengths = l ∙ sym (fresh_number federation_ready (found (goal.at.copy_ranges-requires c).In-Sheet).0); some = omega (arith, l) }
+
+pub returns-in-Sheet : goal.returns-in-Sheet
+returns-in-Sheet c =
+    let counts = (start (goal.at.returns-in-Sheet c).Else-not-right_lengths).args.counts.now in
+    mend-made federation_ready _ counts _ (right (goal.at.returns-in-Sheet c).Else-not-right_lengths) (found (goal.at.returns-in-Sheet c).In-Sheet).0 (found (goal.at.returns-in-Sheet c).In-Sheet).1
+    (same_counts federation_ready (found (goal.at.returns-in-Sheet c).In-Sheet).0 counts (sym (found (goal.at.returns-in-Sheet c).In-Sheet).1) c.copy_ranges.ensures) (rw c.capacity-cap.ensures at c.tally.ensures)
+
+pub returns-in-Refused : goal.returns-in-Refused
+returns-in-Refused c =
+    let none = (rw c.capacity-cap.ensures at c.recount.ensures).none _ c.in-Refused.is in
+    rw none.0 (mend_none federation_ready _ _ _ (right (goal.at.returns-in-Refused c).Else-not-right_lengths) none.1)

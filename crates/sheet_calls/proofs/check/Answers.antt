@@ -1,0 +1,13 @@
+-- `check` meets its contract.
+use mathlib.Core.Path.{refl}
+use Rattle.call_outcomes.specs.PlainCalls.{count_of, written_for}
+use Rattle.call_outcomes.specs.ClubsLaws.{clubs_ready}
+use Rattle.sheet_answers.specs.QuestionLaws.{answered_outcome}
+use Rattle.sheet_calls.proofs.check.Goals as goal
+
+pub examine-opened-requires : goal.examine-opened-requires
+examine-opened-requires c = refl
+
+pub returns : goal.returns
+unfolding written_for
+returns c = answered_outcome clubs_ready c.examine-opened.ensures count_of _ c.check.ensures refl _

@@ -1,0 +1,52 @@
+-- `examine` meets its contract.
+use mathlib.Core.Path.{sym, ◌∙◌}
+use Rattle.store_layout.specs.Decode.{numbered}
+use Rattle.call_outcomes.specs.Untallied.{untallied_view, store_of}
+use Rattle.call_outcomes.specs.Plain.{tally_slice, plain_store_of}
+use Rattle.call_open.specs.Opening.{OpenedStore, OpenedSheet}
+use Rattle.call_open.specs.AdmittedLaws.{opened_store, plain_decoded, opened_sheet}
+use Rattle.call_open.specs.SliceOpeningLaws.{look_lengths, look_refused, look-not, look-sheet}
+use Rattle.sheet_open.specs.PlainOpeningLaws.{plain_refused, plain_sheet}
+use Rattle.sheet_open.proofs.examine.Goals.{In-Sheet}
+use Rattle.sheet_open.proofs.examine.Goals as goal
+
+-- Slots and counts are a sheet with these numbers.
+sheet : (c : In-Sheet) → let a = c.args in
+    OpenedStore (untallied_view a.cap) numbered (store_of a.slots.now a.counts.now) c.in-Sheet.n c.in-Sheet.m c.examine.new.work
+sheet c = opened_store (untallied_view _) numbered _ c.examine.ensures _ _ c.in-Sheet.is
+
+holds : (c : In-Sheet) → let a = c.args in
+    OpenedSheet a.cap (store_of a.slots.now a.counts.now) c.in-Sheet.n c.in-Sheet.m c.examine.new.work
+holds c = opened_sheet _ _ c.examine.ensures _ _ c.in-Sheet.is
+
+pub returns-then-tallies-cap : goal.returns-then-tallies-cap
+returns-then-tallies-cap c =
+    let a = c.args in
+    plain_refused (look_lengths (untallied_view a.cap) (tally_slice a.cap) numbered (plain_store_of a.slots.now a.counts.now a.tallies.now) _ c.if-tallies-cap.true)
+
+pub is_tallied-requires : goal.is_tallied-requires
+is_tallied-requires c =
+    record { ready = c.requires.ready; sheet = holds (goal.at.is_tallied-requires c).In-Sheet; tallies = c.if-tallies-cap.false; numbers = c.requires.numbers }
+
+pub returns-then-not-is_tallied : goal.returns-then-not-is_tallied
+returns-then-not-is_tallied c =
+    let a = c.args in
+    plain_refused
+    (look-not (untallied_view a.cap) (tally_slice a.cap) numbered (plain_store_of a.slots.now a.counts.now a.tallies.now) _ c.if-tallies-cap.false (sheet (goal.at.returns-then-not-is_tallied c).In-Sheet)
+    (sym (c.is_tallied.ensures.0 (sheet (goal.at.returns-then-not-is_tallied c).In-Sheet).contents (plain_decoded a.cap _ (sheet (goal.at.returns-then-not-is_tallied c).In-Sheet).contents (sheet (goal.at.returns-then-not-is_tallied c).In-Sheet).decided)) ∙ c.if-not-is_tallied.true))
+
+pub returns-else-not-is_tallied : goal.returns-else-not-is_tallied
+returns-else-not-is_tallied c =
+    let a = c.args in
+    let passed = c.if-not-is_tallied.false in
+    plain_sheet
+    (look-sheet (untallied_view a.cap) (tally_slice a.cap) numbered (plain_store_of a.slots.now a.counts.now a.tallies.now) _ c.if-tallies-cap.false (sheet (goal.at.returns-else-not-is_tallied c).In-Sheet)
+    (sym (c.is_tallied.ensures.0 (sheet (goal.at.returns-else-not-is_tallied c).In-Sheet).contents (plain_decoded a.cap _ (sheet (goal.at.returns-else-not-is_tallied c).In-Sheet).contents (sheet (goal.at.returns-else-not-is_tallied c).In-Sheet).decided)) ∙ passed))
+    (c.is_tallied.ensures.1 passed)
+
+pub returns-in-Refused : goal.returns-in-Refused
+returns-in-Refused c =
+    let a = c.args in
+    plain_refused
+    (look_refused (untallied_view a.cap) (tally_slice a.cap) numbered (plain_store_of a.slots.now a.counts.now a.tallies.now) _ c.if-tallies-cap.false c.examine.ensures
+    c.in-Refused.is)

@@ -1,0 +1,19 @@
+-- `leaves_have_tallies` meets its contract. The loop's invariant: the leaves before k have their tallies.
+use mathlib.Core.List.{List}
+use Prim.Native.Nat.{ℕ, ◌-◌, ◌*◌, ◌≤◌}
+use lib.ListN.{take, drop}
+use Rattle.tree_sizes.specs.Sizes.{slots}
+use Rattle.store_layout.specs.Leaf.{nonzero}
+use Rattle.store_scoring.specs.Scoring.{tally}
+use Rattle.store_sums.specs.Updating.{Agrees}
+use Rattle.store_tallies.proofs.leaves_have_tallies.Given as goal
+
+-- The number of scoring entries of the leaf k, in a tree whose first leaf has the number `leaves`.
+abbrev pub counted : List ℕ → ℕ → ℕ → ℕ → ℕ
+counted slots s leaves k = tally (nonzero (take s (drop (s * (k - leaves)) slots)))
+
+abbrev pub invariant-loop-k : goal.invariant-loop-k
+invariant-loop-k l = (l.leaves ≤ l.k) × (l.k ≤ 2 * l.leaves) × Agrees (counted l.slots l.s l.leaves) l.leaves l.k l.numbers
+
+abbrev pub decreases-loop-k : goal.decreases-loop-k
+decreases-loop-k l = 2 * l.leaves - l.k

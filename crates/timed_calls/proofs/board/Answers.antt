@@ -1,0 +1,12 @@
+-- `board` meets its contract.
+use Rattle.call_outcomes.specs.PlainCalls.{board_of}
+use Rattle.timed_answers.specs.QuestionLaws.{readable, asked_outcome}
+use Rattle.call_outcomes.specs.ClubsLaws.{clubs_ready}
+use Rattle.timed_calls.proofs.board.Goals as goal
+
+pub board-requires : goal.board-requires
+board-requires c = readable clubs_ready c.examine-opened.ensures
+
+pub returns : goal.returns
+returns c =
+    asked_outcome clubs_ready c.examine-opened.ensures (board_of _ _) _ _ _ _ c.board.ensures
