@@ -16,17 +16,14 @@ use Rattle.federation_mend.proofs.mend.Goals.{Else-not-right_lengths, In-Sheet}
 use Rattle.federation_mend.proofs.mend.Goals as goal
 
 -- The start; and the lengths are right.
-abbrev start : Else-not-right_lengths → tie.Start
-start c = (goal.at.Else-not-right_lengths c).Start
-
-right : (c : Else-not-right_lengths) → let a = (start c).args in (plain_view federation).right_lengths (plain_store_of a.slots.now a.counts.now a.tallies.now) ≡ true
+right : (c : Else-not-right_lengths) → let a = c.args in (plain_view federation).right_lengths (plain_store_of a.slots.now a.counts.now a.tallies.now) ≡ true
 right c = sym (lengths_tested federation _ _ _) ∙ sym c.right_lengths.ensures ∙ c.if-not-right_lengths.false
 
-lengths : (c : Else-not-right_lengths) → let a = (start c).args in PlainLengths federation (plain_store_of a.slots.now a.counts.now a.tallies.now)
+lengths : (c : Else-not-right_lengths) → let a = c.args in PlainLengths federation (plain_store_of a.slots.now a.counts.now a.tallies.now)
 lengths c = right_plain federation _ (right c)
 
 -- The sheet that was found.
-found : (c : In-Sheet) → let a = (start (goal.at.In-Sheet c).Else-not-right_lengths).args in
+found : (c : In-Sheet) → let a = c.args in
     OpenedSheet federation (store_of a.slots.now c.recount.new.fresh) c.in-Sheet.n c.in-Sheet.size c.recount.new.work
     × (c.in-Sheet.size ≡ get_or a.counts.now 0 0)
 found c =
@@ -54,7 +51,7 @@ copy_ranges-requires c =
 
 pub returns-in-Sheet : goal.returns-in-Sheet
 returns-in-Sheet c =
-    let counts = (start (goal.at.returns-in-Sheet c).Else-not-right_lengths).args.counts.now in
+    let counts = c.args.counts.now in
     mend-made federation_ready _ counts _ (right (goal.at.returns-in-Sheet c).Else-not-right_lengths) (found (goal.at.returns-in-Sheet c).In-Sheet).0 (found (goal.at.returns-in-Sheet c).In-Sheet).1
     (same_counts federation_ready (found (goal.at.returns-in-Sheet c).In-Sheet).0 counts (sym (found (goal.at.returns-in-Sheet c).In-Sheet).1) c.copy_ranges.ensures) (rw c.capacity-cap.ensures at c.tally.ensures)
 
