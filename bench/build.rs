@@ -1,4 +1,4 @@
-//! Links the archives that `bench/run` makes of those of `rt staticlib sheet_c`,
+//! Links the archives that `bench/run` makes of those of `tests/archive` for `sheet_c`,
 //! `timed_c` and `federation_c`, and the C side, which gcc compiles here for any x86-64.
 
 use std::env;

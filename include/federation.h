@@ -2,9 +2,9 @@
  * on a larger store that the caller lends, and the mending of a spoiled one. The conversions of sheet.h have no counterpart here: no such store
  * stood in the order of the range numbers.
  *
- * On x86-64 Linux, `rt staticlib federation_c` proves the crates and writes target/staticlib/libfederation_c.a; a program is then built by
+ * On x86-64 Linux, `rt lib` in crates/federation_c proves the crates and writes out/libfederation_c.a there; a program is then built by
  *
- *     gcc -I include -o program program.c target/staticlib/libfederation_c.a
+ *     gcc -I include -o program program.c crates/federation_c/out/libfederation_c.a
  *
  * with the archives of sheet.h and timed.h behind it where it makes their calls too. What a sheet and a timed sheet are, how slices are passed, what
  * comes back in `answer`, what the coins have to be, when to mend and what is not claimed stands in sheet.h and timed.h, and holds here but for the

@@ -1,10 +1,10 @@
 /* The frames of the program `sheet`: the kind of a line, and the answer to it. docs/FRAMES.md has the formats of frames and answers.
  *
- * On x86-64 Linux, `rt staticlib frames` proves the crates and writes target/staticlib/libframes.a; a program is then built by
+ * On x86-64 Linux, `rt lib` in crates/frames_c proves the crates and writes out/libframes_c.a there; a program is then built by
  *
- *     gcc -I include -o program program.c target/staticlib/libframes.a
+ *     gcc -I include -o program program.c crates/frames_c/out/libframes_c.a
  *
- * with target/staticlib/libsheet_c.a behind it where it makes the calls of sheet.h too.
+ * with crates/sheet_c/out/libsheet_c.a behind it where it makes the calls of sheet.h too.
  *
  * A slice is a pointer and the number of its elements. The pointer is aligned for its element type and not null, also where the number is 0.
  * A slice that a call may write overlaps no other slice of that call: of frame_step that is every slice but the line.

@@ -1,9 +1,9 @@
 /* The packed finishing sheet: seven calls on a store that the caller lends, the mending of a spoiled one, and the conversion of its counts between
  * two orders.
  *
- * On x86-64 Linux, `rt staticlib sheet_c` proves the crates and writes target/staticlib/libsheet_c.a; a program is then built by
+ * On x86-64 Linux, `rt lib` in crates/sheet_c proves the crates and writes out/libsheet_c.a there; a program is then built by
  *
- *     gcc -I include -o program program.c target/staticlib/libsheet_c.a
+ *     gcc -I include -o program program.c crates/sheet_c/out/libsheet_c.a
  *
  * The sheet. An entry is a 64-bit number other than 0; equal entries may stand in one sheet. The list is the entries in finishing order,
  * N of them, at most SHEET_ENTRIES; their ranks are 0 to N - 1. The store is SHEET_SLOTS slots, SHEET_COUNTS counts and SHEET_TALLIES tallies.

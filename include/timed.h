@@ -1,10 +1,10 @@
 /* Timed sheets: eight calls on a store that the caller lends, whose entries rise, so that a boat is entered and found by her finish.
  *
- * On x86-64 Linux, `rt staticlib timed_c` proves the crates and writes target/staticlib/libtimed_c.a; a program is then built by
+ * On x86-64 Linux, `rt lib` in crates/timed_c proves the crates and writes out/libtimed_c.a there; a program is then built by
  *
- *     gcc -I include -o program program.c target/staticlib/libtimed_c.a
+ *     gcc -I include -o program program.c crates/timed_c/out/libtimed_c.a
  *
- * with target/staticlib/libsheet_c.a behind it where it makes the calls of sheet.h too. What a sheet is, how slices are passed, what the
+ * with crates/sheet_c/out/libsheet_c.a behind it where it makes the calls of sheet.h too. What a sheet is, how slices are passed, what the
  * coins have to be and what is not claimed stands in sheet.h, and holds here.
  *
  * The timed sheet. An entry is bit 63, SHEET_TIED, bit 62, SHEET_RETIRED, and its key, the other 62 bits: the finish time in bits 32 to 61, the

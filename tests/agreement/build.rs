@@ -1,4 +1,4 @@
-//! Links the archives that `rt staticlib` makes of `sheet_c`, `timed_c`,
+//! Links the archives that `tests/archive` makes of `sheet_c`, `timed_c`,
 //! `federation_c` and `frames`.
 
 use std::env;

@@ -14,8 +14,8 @@ CRATES = ["base", "draw", "draw_shares", "tree_sizes", "tree_rules", "tree_canon
 
 
 def enums(source):
-    """The opening comment and the enums of a source file, each with the comment above it."""
-    return source.split("\n", 1)[0] + "\n\n" + "\n".join(re.findall(r"(?ms)^(?:// [^\n]*\n)+pub enum .*?^}\n", source))
+    """The head of a source file, to its first empty line, and its enums, each with the comment and the attributes above it."""
+    return source.split("\n\n", 1)[0] + "\n\n" + "\n".join(re.findall(r"(?ms)^(?:// [^\n]*\n)+(?:#\[[^\n]*\n)*pub enum .*?^}\n", source))
 
 
 def copy(place):
@@ -32,11 +32,13 @@ def copy(place):
 
 
 def check(place):
-    """Whether the copy is proved, and the first place at which it is not."""
-    run = subprocess.run(["rt", "check", "tree_canonical"], cwd=place, capture_output=True, text=True)
+    """Whether the copy is proved, and the first place at which it is not, by the crate, the file in it and the name."""
+    run = subprocess.run(["rt", "check", "--jobs", "1"], cwd=place / "crates" / CRATES[-1], capture_output=True, text=True)
     said = run.stdout + run.stderr
-    first = re.search(r"crates/(\S+?\.antt):\d+:\d+: (?:error: )?`([^`]+)`", said)
-    return run.returncode == 0, first.groups() if first else None, said
+    library = re.search(r"(?m)^rt: the library (\w+) did not build", said)
+    first = re.search(r"(?m)^\./(\S+\.antt):\d+:\d+: error: `([^`]+)`", said)
+    crate = library.group(1) if library else CRATES[-1]
+    return run.returncode == 0, (f"{crate}/{first.group(1)}", first.group(2)) if first else None, said
 
 
 def edited(place, edit):
