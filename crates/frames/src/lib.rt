@@ -1,4 +1,4 @@
-// The frames of the program: one step on a line, and the reading of a line for programs in C.
+// The frames of the program: one step on a line, and the step and the reading of a line that `frames_c` exports to programs in C.
 #![tactic(auto)]
 
 ghost use Rattle.std.specs.Prelude.{◌≡◌};
@@ -11,8 +11,7 @@ ghost use Rattle.frames.specs.FrameStep.{frame_step};
 use frame_answers::Stepped;
 
 // The kind of a line of bytes without its LF: the first byte of a frame, or 255 where the line is no frame.
-#[unsafe(no_mangle)]
-pub extern "C" fn frame_kind(line: &[u8]) -> u8
+pub fn frame_kind(line: &[u8]) -> u8
     ensures { result ≡ kind_of line.now }
 {
     frame_lines::decode(line).kind()
@@ -51,8 +50,7 @@ pub fn step(
 
 // The step for programs in C: the number of words that wait stands in a slice of one number, before the step and after it. Where that
 // slice is empty, nothing is done and there are no bytes of answer.
-#[unsafe(no_mangle)]
-pub extern "C" fn frame_step(
+pub fn frame_step(
     line: &[u8],
     slots: &mut [u64],
     counts: &mut [u16],

@@ -7,6 +7,8 @@ ghost use Rattle.frame_answers.specs.Gives.{kept_of};
 ghost use Rattle.frame_chunks.specs.Chunk.{standing, end, chunk_outcome};
 ghost use Rattle.sheet.specs.Within.{Within};
 
+use std::io::Read;
+
 // The slots of the store.
 const SLOTS: usize = 4224;
 
@@ -44,14 +46,15 @@ struct Chunk {
 }
 
 // Writes the first n bytes of the output, and tells whether they are written.
-fn write_front(output: &[u8], n: usize) -> bool
+fn write_front(rt: &impl Print, output: &[u8], n: usize) -> bool
     requires { n ≤ length output.now }
 {
-    io::write_all(libc::STDOUT_FILENO, &output[..n])
+    rt.write_all(&output[..n]).is_ok()
 }
 
 // Answers the lines that end in the first n bytes of the input, and writes the answers; stops where a write has failed.
 fn answer_chunk(
+    rt: &impl Print,
     input: &[u8],
     n: usize,
     line: &mut [u8; LINE],
@@ -80,7 +83,7 @@ fn answer_chunk(
         have = reached.have;
         waiting = reached.waiting;
         from = reached.next;
-        let is_written = write_front(output, reached.bytes);
+        let is_written = write_front(rt, output, reached.bytes);
         if !is_written {
             return State {
                 have: have,
@@ -97,11 +100,11 @@ fn answer_chunk(
 }
 
 // Reads a chunk of the input. The end of the input is the last one: the LF that ends a line of `have` bytes, or no byte where none are held.
-fn read_chunk(input: &mut [u8], have: usize) -> Chunk
+fn read_chunk(reader: &mut impl Read, input: &mut [u8], have: usize) -> Chunk
     requires { 1 ≤ length input.old }
     ensures { result.bytes ≤ length input.old }
 {
-    let bytes = io::count(libc::read(libc::STDIN_FILENO, input), input);
+    let bytes = reader.read(input).unwrap_or(0);
     if 0 < bytes {
         return Chunk {
             bytes: bytes,
@@ -135,6 +138,7 @@ fn turns_left(turns: u64, last: bool, failed: bool) -> u64
 // Answers every line of the input, and stops where a write has failed. The answers to a chunk are written before the next one is read. A
 // proved loop has to end, so this one counts its turns down, from a number that no run uses up.
 fn run(
+    rt: &(impl Input + Print),
     slots: &mut [u64; SLOTS],
     counts: &mut [u16; COUNTS],
     tallies: &mut [u16; TALLIES],
@@ -148,10 +152,12 @@ fn run(
         waiting: 0,
         failed: false,
     };
+    let mut reader = rt.reader();
     let mut turns = u64::MAX;
     while 0 < turns {
-        let chunk = read_chunk(input, state.have);
+        let chunk = read_chunk(&mut reader, input, state.have);
         state = answer_chunk(
+            rt,
             input,
             chunk.bytes,
             line,
@@ -167,7 +173,7 @@ fn run(
 }
 
 // A store of zeros is the empty sheet, and no word of the tape waits.
-fn main() {
+fn main(rt: HostRuntime) {
     let mut slots = [0u64; SLOTS];
     let mut counts = [0u16; COUNTS];
     let mut tallies = [0u16; TALLIES];
@@ -176,6 +182,7 @@ fn main() {
     let mut input = [0u8; INPUT];
     let mut output = [0u8; OUTPUT];
     run(
+        &rt,
         &mut slots,
         &mut counts,
         &mut tallies,

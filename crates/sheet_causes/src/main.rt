@@ -3,6 +3,7 @@
 #![tactic(auto)]
 
 use call_outcomes::Answer;
+use std::io;
 
 // The slots of the store.
 const SLOTS: usize = 4224;
@@ -11,137 +12,185 @@ const SLOTS: usize = 4224;
 const COUNTS: usize = 256;
 
 // Prints a line: the name of a call, the number and the two values that it returned.
-fn show(name: &[u8], answer: Answer) {
+fn show(rt: &impl Print, name: &str, answer: Answer) -> io::Result<()> {
     let back = answer.returned();
-    io::write_all(1, name);
-    io::write_all(1, b" ");
-    io::print_decimal(1, back.number as u64);
-    io::write_all(1, b" ");
-    io::print_decimal(1, back.first as u64);
-    io::write_all(1, b" ");
-    io::print_decimal(1, back.second as u64);
-    io::write_all(1, b"\n");
+    println!(rt; "{name} {} {} {}", back.number, back.first, back.second)
 }
 
 // Prints a line of two entries.
-fn show_entries(first: u64, second: u64) {
-    io::print_decimal(1, first);
-    io::write_all(1, b" ");
-    io::print_decimal(1, second);
-    io::write_all(1, b"\n");
+fn show_entries(rt: &impl Print, first: u64, second: u64) -> io::Result<()> {
+    println!(rt; "{first} {second}")
 }
 
-fn clear(slots: &mut [u64], counts: &mut [u16; COUNTS], tallies: &mut [u16]) {
-    show(b"clear", sheet_calls::clear(slots, counts, tallies));
+fn clear(
+    rt: &impl Print,
+    slots: &mut [u64],
+    counts: &mut [u16; COUNTS],
+    tallies: &mut [u16],
+) -> io::Result<()> {
+    show(rt, "clear", sheet_calls::clear(slots, counts, tallies))
 }
 
 // An insert that is lent 64 words.
 fn insert(
+    rt: &impl Print,
     slots: &mut [u64; SLOTS],
     counts: &mut [u16; COUNTS],
     tallies: &mut [u16; COUNTS],
     rank: usize,
     entry: u64,
-) {
+) -> io::Result<()> {
     let tape = [0u32; 64];
     show(
-        b"insert",
+        rt,
+        "insert",
         sheet_calls::insert(slots, counts, tallies, rank, entry, &tape),
-    );
+    )
 }
 
 // A delete that is lent no word.
 fn delete(
+    rt: &impl Print,
     slots: &mut [u64; SLOTS],
     counts: &mut [u16; COUNTS],
     tallies: &mut [u16; COUNTS],
     rank: usize,
-) {
+) -> io::Result<()> {
     let tape = [0u32; 0];
     show(
-        b"delete",
+        rt,
+        "delete",
         sheet_calls::delete(slots, counts, tallies, rank, &tape),
-    );
+    )
 }
 
-fn check(slots: &[u64; SLOTS], counts: &[u16; COUNTS], tallies: &[u16; COUNTS]) {
-    show(b"check", sheet_calls::check(slots, counts, tallies));
+fn check(
+    rt: &impl Print,
+    slots: &[u64; SLOTS],
+    counts: &[u16; COUNTS],
+    tallies: &[u16; COUNTS],
+) -> io::Result<()> {
+    show(rt, "check", sheet_calls::check(slots, counts, tallies))
 }
 
-fn place(slots: &[u64; SLOTS], counts: &[u16; COUNTS], tallies: &[u16; COUNTS], rank: usize) {
-    show(b"place", sheet_calls::place(slots, counts, tallies, rank));
+fn place(
+    rt: &impl Print,
+    slots: &[u64; SLOTS],
+    counts: &[u16; COUNTS],
+    tallies: &[u16; COUNTS],
+    rank: usize,
+) -> io::Result<()> {
+    show(
+        rt,
+        "place",
+        sheet_calls::place(slots, counts, tallies, rank),
+    )
 }
 
 // A read from rank 0 on, with room for two entries.
-fn read(slots: &[u64; SLOTS], counts: &[u16; COUNTS], tallies: &[u16; COUNTS], last: usize) {
+fn read(
+    rt: &impl Print,
+    slots: &[u64; SLOTS],
+    counts: &[u16; COUNTS],
+    tallies: &[u16; COUNTS],
+    last: usize,
+) -> io::Result<()> {
     let mut output = [0u64; 2];
     show(
-        b"read",
+        rt,
+        "read",
         sheet_calls::read(slots, counts, tallies, 0, last, &mut output),
-    );
-    show_entries(output[0], output[1]);
+    )?;
+    show_entries(rt, output[0], output[1])
 }
 
 // A board of two ranks.
 fn board(
+    rt: &impl Print,
     slots: &[u64; SLOTS],
     counts: &[u16; COUNTS],
     tallies: &[u16; COUNTS],
     first: u64,
     second: u64,
-) {
+) -> io::Result<()> {
     let ranks = [first, second];
     let mut output = [0u64; 2];
     show(
-        b"board",
+        rt,
+        "board",
         sheet_calls::board(slots, counts, tallies, &ranks, &mut output),
-    );
-    show_entries(output[0], output[1]);
+    )?;
+    show_entries(rt, output[0], output[1])
 }
 
 // Slots that are too few, and tallies that are too few (cause 1).
-fn lengths(slots: &mut [u64; SLOTS], counts: &mut [u16; COUNTS], tallies: &mut [u16; COUNTS]) {
+fn lengths(
+    rt: &impl Print,
+    slots: &mut [u64; SLOTS],
+    counts: &mut [u16; COUNTS],
+    tallies: &mut [u16; COUNTS],
+) -> io::Result<()> {
     let mut few_slots = [7u64; 2];
     let mut few_tallies = [7u16; 2];
-    clear(&mut few_slots, counts, tallies);
-    clear(slots, counts, &mut few_tallies);
+    clear(rt, &mut few_slots, counts, tallies)?;
+    clear(rt, slots, counts, &mut few_tallies)
 }
 
 // On a store that is no sheet only clear is accepted (cause 2). Then entry 0 (cause 3), which decides before the rank, and a rank that is too
 // high (cause 4).
-fn start(slots: &mut [u64; SLOTS], counts: &mut [u16; COUNTS], tallies: &mut [u16; COUNTS]) {
-    insert(slots, counts, tallies, 0, 7);
-    clear(slots, counts, tallies);
-    insert(slots, counts, tallies, 9, 0);
-    insert(slots, counts, tallies, 9, 7);
+fn start(
+    rt: &impl Print,
+    slots: &mut [u64; SLOTS],
+    counts: &mut [u16; COUNTS],
+    tallies: &mut [u16; COUNTS],
+) -> io::Result<()> {
+    insert(rt, slots, counts, tallies, 0, 7)?;
+    clear(rt, slots, counts, tallies)?;
+    insert(rt, slots, counts, tallies, 9, 0)?;
+    insert(rt, slots, counts, tallies, 9, 7)
 }
 
 // The only entry is taken out without a word; one of two is not (cause 7).
-fn words(slots: &mut [u64; SLOTS], counts: &mut [u16; COUNTS], tallies: &mut [u16; COUNTS]) {
-    insert(slots, counts, tallies, 0, 7);
-    delete(slots, counts, tallies, 0);
-    insert(slots, counts, tallies, 0, 7);
-    insert(slots, counts, tallies, 1, 8);
-    delete(slots, counts, tallies, 0);
+fn words(
+    rt: &impl Print,
+    slots: &mut [u64; SLOTS],
+    counts: &mut [u16; COUNTS],
+    tallies: &mut [u16; COUNTS],
+) -> io::Result<()> {
+    insert(rt, slots, counts, tallies, 0, 7)?;
+    delete(rt, slots, counts, tallies, 0)?;
+    insert(rt, slots, counts, tallies, 0, 7)?;
+    insert(rt, slots, counts, tallies, 1, 8)?;
+    delete(rt, slots, counts, tallies, 0)
 }
 
 // Of two boats that score a tally of one is wrong (cause 2).
-fn tally(slots: &[u64; SLOTS], counts: &[u16; COUNTS], tallies: &mut [u16; COUNTS]) {
+fn tally(
+    rt: &impl Print,
+    slots: &[u64; SLOTS],
+    counts: &[u16; COUNTS],
+    tallies: &mut [u16; COUNTS],
+) -> io::Result<()> {
     tallies[1] = 1;
-    check(slots, counts, tallies);
+    check(rt, slots, counts, tallies)?;
     tallies[1] = 2;
-    check(slots, counts, tallies);
+    check(rt, slots, counts, tallies)
 }
 
 // Places and reads, past the end (cause 4); boards, past the end too, and of ranks that fall (cause 16), which decides before the rank.
-fn questions(slots: &[u64; SLOTS], counts: &[u16; COUNTS], tallies: &[u16; COUNTS]) {
-    place(slots, counts, tallies, 1);
-    place(slots, counts, tallies, 2);
-    read(slots, counts, tallies, 1);
-    read(slots, counts, tallies, 2);
-    board(slots, counts, tallies, 1, 1);
-    board(slots, counts, tallies, 1, 2);
-    board(slots, counts, tallies, 2, 1);
+fn questions(
+    rt: &impl Print,
+    slots: &[u64; SLOTS],
+    counts: &[u16; COUNTS],
+    tallies: &[u16; COUNTS],
+) -> io::Result<()> {
+    place(rt, slots, counts, tallies, 1)?;
+    place(rt, slots, counts, tallies, 2)?;
+    read(rt, slots, counts, tallies, 1)?;
+    read(rt, slots, counts, tallies, 2)?;
+    board(rt, slots, counts, tallies, 1, 1)?;
+    board(rt, slots, counts, tallies, 1, 2)?;
+    board(rt, slots, counts, tallies, 2, 1)
 }
 
 // Inserts entries at the front until 1,024 stand.
@@ -158,18 +207,18 @@ fn fill(
     }
 }
 
-fn main() {
+fn main(rt: HostRuntime) -> io::Result<()> {
     let mut slots = [7u64; SLOTS];
     let mut counts = [7u16; COUNTS];
     let mut tallies = [7u16; COUNTS];
     let tape = [0u32; 2048];
-    lengths(&mut slots, &mut counts, &mut tallies);
-    start(&mut slots, &mut counts, &mut tallies);
-    words(&mut slots, &mut counts, &mut tallies);
-    tally(&slots, &counts, &mut tallies);
-    questions(&slots, &counts, &tallies);
+    lengths(&rt, &mut slots, &mut counts, &mut tallies)?;
+    start(&rt, &mut slots, &mut counts, &mut tallies)?;
+    words(&rt, &mut slots, &mut counts, &mut tallies)?;
+    tally(&rt, &slots, &counts, &mut tallies)?;
+    questions(&rt, &slots, &counts, &tallies)?;
     fill(&mut slots, &mut counts, &mut tallies, &tape);
     // A full sheet takes no entry (cause 5), and three entries do not go into an output of two (cause 6).
-    insert(&mut slots, &mut counts, &mut tallies, 0, 9);
-    read(&slots, &counts, &tallies, 2);
+    insert(&rt, &mut slots, &mut counts, &mut tallies, 0, 9)?;
+    read(&rt, &slots, &counts, &tallies, 2)
 }
