@@ -16,6 +16,7 @@ TOKEN = re.compile(r"[^\s(){}\[\].,;:\"`'/|×→←≡≢≤<>=]+'*")
 DECLARED = re.compile(r"^(?P<indent> *)(?P<words>(?:(?:pub|abbrev|unfoldable|private|rec|inductive) )*)(?P<names>[^\s(){}.,;:]+(?: [^\s(){}.,;:]+)*) :(?: |$)")
 # Two records have a field of this name: a test in the one, a proof in the other.
 FIELDS = {"is-list"}
+FOREIGN = re.compile(r"(?:^|[\s(])(?:native|lib|mathlib|borrow|Prim)\.(?:[A-Z]\w*\.)+$")
 WORDS = {"pub", "abbrev", "unfoldable", "private"}
 IMPORT = re.compile(r"^\s*(?:ghost )?(?:pub )?use (?P<module>[^{;]+?)(?:\.\{(?P<names>[^}]*)\})?(?: as (?P<alias>\S+?))?;?\s*$")
 
@@ -54,8 +55,6 @@ def declared(root):
         for line in open(os.path.join(root, path), encoding="utf-8"):
             m = DECLARED.match(line)
             if not m or line.lstrip().startswith(("--", "module ", "record ", "pub record", "data ", "pub data", "use ", "λ", "let ", "|", "where")):
-                continue
-            if len(m["indent"]) > 4:
                 continue
             names = [w for w in m["names"].split() if w not in WORDS]
             if len(names) > 1 and not m["indent"]:
@@ -145,7 +144,8 @@ def own(module):
 def respelt(path, text, turn, kept):
     def one(m):
         t = m.group(0)
-        if t in kept:
+        # a name of another library by its whole path stays
+        if t in kept or FOREIGN.search(m.string[max(0, m.start() - 80) : m.start()]):
             return t
         return turn.get(t, t)
 
