@@ -4,7 +4,7 @@ use native.Mathlib.Omega.{arith}
 use lib.ListN.{length}
 use borrow.Author.Rules.{rules}
 use borrow.Author.Tests.{not-true, not-false}
-use Rattle.frame_input.specs.CollectLaws.{collected_within, collected_further}
+use Rattle.frame_input.proofs.CollectLaws.{collected_within, collected_further}
 use Rattle.frame_chunks.specs.ChunkLaws.{answers_open, answers_ended}
 use Rattle.frame_chunks.proofs.answer_next.Statement.{statement}
 use Rattle.frame_chunks.proofs.answer_next.Tie as tie
