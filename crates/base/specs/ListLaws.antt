@@ -89,11 +89,11 @@ module _ {A : Type 0} where
     length_joined = length-append (take i xs) ys ∙ rw (length-take-le i xs inside)
 
     module _ (b : ℕ) (before : b ≤ i) where
-      pub joined-take : take b (take i xs ++ ys) ≡ take b xs
-      joined-take = take-append-le b (take i xs) ys (rw (length-take-le i xs inside) before) ∙ take-take b i xs before
+      pub joined_take : take b (take i xs ++ ys) ≡ take b xs
+      joined_take = take-append-le b (take i xs) ys (rw (length-take-le i xs inside) before) ∙ take-take b i xs before
 
-      pub joined-drop : drop b (take i xs ++ ys) ≡ take (i - b) (drop b xs) ++ ys
-      joined-drop = drop-append-le b (take i xs) ys (rw (length-take-le i xs inside) before) ∙ rw (drop_take b i xs)
+      pub joined_drop : drop b (take i xs ++ ys) ≡ take (i - b) (drop b xs) ++ ys
+      joined_drop = drop-append-le b (take i xs) ys (rw (length-take-le i xs inside) before) ∙ rw (drop_take b i xs)
 
   -- The parts of a list with every member replaced.
   module _ {B : Type 0} (f : A → B) where

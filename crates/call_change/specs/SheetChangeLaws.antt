@@ -7,7 +7,7 @@ use mathlib.Core.List.{List, []}
 use Rattle.std.proofs.Math.Option.{none}
 use Rattle.std.proofs.Math.ListN.{get_or}
 use Rattle.draw_shares.specs.Tape.{Ran, ran, ended, run_at}
-use Rattle.draw_shares.specs.TapeLaws.{run_ends}
+use Rattle.draw_shares.proofs.TapeLaws.{run_ends}
 use Rattle.tree_sizes.specs.Sizes.{height}
 use Rattle.tree_rules.specs.declared.Change.{Change}
 use Rattle.tree_rules.specs.Tree.{Shape, IsShape}
@@ -15,7 +15,7 @@ use Rattle.tree_rules.specs.Compare.{count_after}
 use Rattle.tree_rules.specs.Rules.{rank_of, InReach, update}
 use Rattle.tree_rules.specs.ChangeList.{change_list}
 use Rattle.tree_rules.specs.ChangeListLaws.{length_changed}
-use Rattle.tree_rules.specs.ShapeLaws.{update_ends}
+use Rattle.tree_rules.proofs.ShapeLaws.{update_ends}
 use Rattle.tree_counts.specs.declared.Part.{Part}
 use Rattle.tree_counts.specs.Ranges.{Perfect}
 use Rattle.tree_counts.specs.Counts.{shape_counts, shape_in}
@@ -29,11 +29,11 @@ use Rattle.tree_update.specs.Update.{UpdateReady}
 use Rattle.store_layout.specs.declared.Capacity.{Capacity}
 use Rattle.store_layout.specs.Layout.{Store, lay_slots, lay_counts, lay_out}
 use Rattle.store_order.specs.CountOrder.{count_order, number_order}
-use Rattle.store_order.specs.CountOrderLaws.{count_order_size, number_count}
+use Rattle.store_order.proofs.CountOrderLaws.{count_order_size, number_count}
 use Rattle.store_layout.specs.Sheet.{IsContents}
 use Rattle.store_layout.specs.Decode.{Contents, numbered}
 use Rattle.store_layout.specs.Room.{Roomy, CapacityReady}
-use Rattle.store_layout.specs.SheetLaws.{decode_sound, length_slots, length_counts, numbered_lay_out}
+use Rattle.store_layout.proofs.SheetLaws.{decode_sound, length_slots, length_counts, numbered_lay_out}
 use Rattle.store_rows.specs.Above.{PlacedBut}
 use Rattle.store_sums.specs.Numbers.{NumbersBut, NumbersIn}
 use Rattle.store_sums.specs.LaidLaws.{counts_laid}
@@ -50,7 +50,7 @@ use Rattle.call_outcomes.specs.Outcome.{refused, outcome}
 use Rattle.call_outcomes.specs.ChangeLaws.{outcome_drawn, outcome_ended}
 use Rattle.call_outcomes.specs.PlainCalls.{plain_change, change_cause, edit_of, changing}
 use Rattle.call_outcomes.specs.Untallied.{IsList, untallied, store_of, outcome_of}
-use Rattle.call_outcomes.specs.UntalliedLaws.{contents_of_lem, plain_calls_lem}
+use Rattle.call_outcomes.proofs.UntalliedLaws.{contents_of_lem, plain_calls_lem}
 use Rattle.call_outcomes.specs.PlainCallLaws.{change_within, edit_change, edit_list}
 use Rattle.call_open.specs.AdmittedLaws.{change_decoded, change_free}
 use Rattle.call_change.specs.declared.DrawnChange.{DrawnChange}
@@ -224,19 +224,19 @@ module _ {cap : Capacity} (ready : CapacityReady cap) {change : Change} {e n m :
       drawn : Drawn change n c.shape (run_at (update change n c.shape) tape 0) cap.counts m' part next work'
       drawn = answer_done change n c.shape (run_at (update change n c.shape) tape 0) answer cap.counts work' m' part next updated_as done
 
-      new-shape : IsShape (count_after change n) drawn.shape
-      new-shape =
+      new_shape : IsShape (count_after change n) drawn.shape
+      new_shape =
           run_ends (IsShape (count_after change n)) (update change n c.shape) tape 0 drawn.shape next
           (update_ends change n c.shape in_reach shape_n) drawn.run_is
 
       -- by the number of entries of the list
-      by-list : (P : ℕ → Type 0) → P n → P (length c.list)
-      by-list P h = subst P (sym p.admitted.count) h
+      by_list : (P : ℕ → Type 0) → P n → P (length c.list)
+      by_list P h = subst P (sym p.admitted.count) h
 
       planned : Plan cap.slots cap.counts c.list c.shape drawn.shape change e part
       planned =
-          plan cap ready.roomy c.list c.shape drawn.shape change e part sound.0 (by-list (InReach change) in_reach)
-          (by-list (λ k. IsShape (count_after change k) drawn.shape) new-shape) (by-list (λ k. count_after change k ≤ cap.entries) within.1)
+          plan cap ready.roomy c.list c.shape drawn.shape change e part sound.0 (by_list (InReach change) in_reach)
+          (by_list (λ k. IsShape (count_after change k) drawn.shape) new_shape) (by_list (λ k. count_after change k ≤ cap.entries) within.1)
           drawn.confined
 
       work'-are : work' ≡ shape_counts cap.counts (count_after change (length c.list)) drawn.shape
@@ -245,33 +245,33 @@ module _ {cap : Capacity} (ready : CapacityReady cap) {change : Change} {e n m :
       work'-length : length work' ≡ cap.counts
       work'-length = ap length work'-are ∙ length_shape_counts cap.counts _ drawn.shape
 
-      sizes-most : (m ≤ 2 * cap.entries) × (m' ≤ 2 * cap.entries)
-      sizes-most = (
+      sizes_most : (m ≤ 2 * cap.entries) × (m' ≤ 2 * cap.entries)
+      sizes_most = (
         omega (arith, p.admitted.size, shape_n.allowed.most, few),
-        omega (arith, drawn.size_is, new-shape.allowed.most, within.1),
+        omega (arith, drawn.size_is, new_shape.allowed.most, within.1),
       )
 
-      new-fit : 2 * 2 ^ height drawn.shape.size ≤ cap.counts
-      new-fit = ready.roomy.counts_fit (count_after change n) drawn.shape.size within.1 new-shape.allowed
+      new_fit : 2 * 2 ^ height drawn.shape.size ≤ cap.counts
+      new_fit = ready.roomy.counts_fit (count_after change n) drawn.shape.size within.1 new_shape.allowed
 
       new_size_lem : get_or work' 0 0 ≡ drawn.shape.size
       new_size_lem =
           ap (λ (xs : List ℕ). get_or xs 0 0) drawn.counts_are
           ∙ shape_counts_size (height drawn.shape.size) cap.counts (count_after change n) drawn.shape
-          (balanced_perfect drawn.shape.size (height drawn.shape.size) 0 (count_after change n) drawn.shape.tree new-shape.balanced) new-fit
+          (balanced_perfect drawn.shape.size (height drawn.shape.size) 0 (count_after change n) drawn.shape.tree new_shape.balanced) new_fit
 
       abbrev d : DrawnChange
       d = record { old = m; new = m'; part = part; change = change; entry = e }
 
       -- what laying the part out asks
-      lay-part-ready : LayReady m m' part change work' slots
-      lay-part-ready =
+      lay_part_ready : LayReady m m' part change work' slots
+      lay_part_ready =
           part_ready cap c.list c.shape drawn.shape change e part planned m m' slots work' p.admitted.size drawn.size_is slots_are work'-are
-          (omega (arith, sizes-most.0, ready.few)) (omega (arith, sizes-most.1, ready.few)) slots_length work'-length
+          (omega (arith, sizes_most.0, ready.few)) (omega (arith, sizes_most.1, ready.few)) slots_length work'-length
 
       -- what is known of the part
-      pub part-inside : PartIn m' part
-      part-inside = rw (← drawn.size_is) planned.new_part
+      pub part_inside : PartIn m' part
+      part_inside = rw (← drawn.size_is) planned.new_part
 
       pub size_kept : part.range ≢ 1 → m' ≡ m
       unfolding Confined
@@ -281,8 +281,8 @@ module _ {cap : Capacity} (ready : CapacityReady cap) {change : Change} {e n m :
           sym drawn.size_is ∙ w.0 ∙ p.admitted.size)
           drawn.confined
 
-      pub before-few : length (entries_before d slots) ≤ cap.entries
-      before-few =
+      pub before_few : length (entries_before d slots) ≤ cap.entries
+      before_few =
           omega (
             arith,
             part_few cap c.list c.shape drawn.shape change e part planned m m' slots work' p.admitted.size drawn.size_is slots_are work'-are,
@@ -290,51 +290,51 @@ module _ {cap : Capacity} (ready : CapacityReady cap) {change : Change} {e n m :
           )
 
       -- the new size parameter stands at number 0
-      pub size-written : {slots' counts' : List ℕ} → store_of slots' counts' ≡ written d work' (store_of slots counts) → get_or counts' 0 0 ≡ m'
+      pub size_written : {slots' counts' : List ℕ} → store_of slots' counts' ≡ written d work' (store_of slots counts) → get_or counts' 0 0 ≡ m'
       unfolding written
-      size-written Store-is =
+      size_written Store-is =
           ap (λ (t : Store). get_or t.counts 0 0) Store-is ∙ count_order_size (height m') work' ∙ new_size_lem ∙ drawn.size_is
 
       -- the work array has the new counts by range number
-      pub work-numbered : {slots' counts' : List ℕ} → store_of slots' counts' ≡ written d work' (store_of slots counts) → work' ≡ numbered (store_of slots' counts')
+      pub work_numbered : {slots' counts' : List ℕ} → store_of slots' counts' ≡ written d work' (store_of slots counts) → work' ≡ numbered (store_of slots' counts')
       unfolding written numbered
-      work-numbered Store-is =
+      work_numbered Store-is =
           let h = height m' in
           sym (ap numbered Store-is
           ∙ ap (λ (k : ℕ). number_order (height k) (count_order h work')) (count_order_size h work' ∙ new_size_lem ∙ drawn.size_is)
-          ∙ number_count h work' (rw (← drawn.size_is, work'-length) new-fit))
+          ∙ number_count h work' (rw (← drawn.size_is, work'-length) new_fit))
 
       -- where it is a part of the sheet, the slots before it and behind it stay
       module _ (other : part.range ≢ 1) {slots' : List ℕ} (laid : slots' ≡ lay_part m m' part change e work' slots) where
         lay_ready : LayReady m' m' part change work' slots
-        lay_ready = subst (λ (k : ℕ). LayReady k m' part change work' slots) (sym (size_kept other)) lay-part-ready
+        lay_ready = subst (λ (k : ℕ). LayReady k m' part change work' slots) (sym (size_kept other)) lay_part_ready
 
-        new-slots-are : slots' ≡ lay_part m' m' part change e work' slots
-        new-slots-are = laid ∙ ap (λ (k : ℕ). lay_part k m' part change e work' slots) (sym (size_kept other))
+        new_slots_are : slots' ≡ lay_part m' m' part change e work' slots
+        new_slots_are = laid ∙ ap (λ (k : ℕ). lay_part k m' part change e work' slots) (sym (size_kept other))
 
-        pub kept-before : take (part_from m' part) slots ≡ take (part_from m' part) slots'
-        kept-before = rw new-slots-are (sym (slots_before lay_ready e))
+        pub kept_before : take (part_from m' part) slots ≡ take (part_from m' part) slots'
+        kept_before = rw new_slots_are (sym (slots_before lay_ready e))
 
-        pub kept-behind : drop (part_from m' part + part_length m' part) slots ≡ drop (part_from m' part + part_length m' part) slots'
-        kept-behind = rw new-slots-are (sym (slots_behind lay_ready e))
+        pub kept_behind : drop (part_from m' part + part_length m' part) slots ≡ drop (part_from m' part + part_length m' part) slots'
+        kept_behind = rw new_slots_are (sym (slots_behind lay_ready e))
 
       -- the new counts are the numbers of entries in the new slots
-      new-list : IsList cap (change_list change e c.list)
-      new-list =
+      new_list : IsList cap (change_list change e c.list)
+      new_list =
           subst (IsList cap) (edit_list change e c.list)
           ((plain_calls_lem cap).keeps (plain_change change e) c.list (record { room = sound.0.room; entries = sound.0.entries })
-          (by-list (λ k. change_cause cap.entries (plain_change change e) k ≡ none) (change_free p.admitted)))
+          (by_list (λ k. change_cause cap.entries (plain_change change e) k ≡ none) (change_free p.admitted)))
 
       entries : count_after change (length c.list) ≡ length (change_list change e c.list)
-      entries = sym (length_changed change e c.list (by-list (InReach change) in_reach))
+      entries = sym (length_changed change e c.list (by_list (InReach change) in_reach))
 
-      new-contents : IsContents cap (change_list change e c.list) drawn.shape
-      new-contents =
-          contents_of_lem cap _ _ new-list (subst (λ (k : ℕ). IsShape k drawn.shape) entries (by-list (λ k. IsShape (count_after change k) drawn.shape) new-shape))
+      new_contents : IsContents cap (change_list change e c.list) drawn.shape
+      new_contents =
+          contents_of_lem cap _ _ new_list (subst (λ (k : ℕ). IsShape k drawn.shape) entries (by_list (λ k. IsShape (count_after change k) drawn.shape) new_shape))
 
-      new-counts-in : NumbersIn length m' m' (lay_part m m' part change e work' slots) work'
-      new-counts-in =
-          counts_of cap ready.roomy (change_list change e c.list) drawn.shape new-contents drawn.size_is
+      new_counts_in : NumbersIn length m' m' (lay_part m m' part change e work' slots) work'
+      new_counts_in =
+          counts_of cap ready.roomy (change_list change e c.list) drawn.shape new_contents drawn.size_is
           (part_laid cap c.list c.shape drawn.shape change e part planned m m' slots work' p.admitted.size drawn.size_is slots_are work'-are)
           (work'-are ∙ ap (λ (k : ℕ). shape_counts cap.counts k drawn.shape) entries)
 
@@ -344,18 +344,18 @@ module _ {cap : Capacity} (ready : CapacityReady cap) {change : Change} {e n m :
           let slots' = lay_part m m' part change e work' slots in
           let size : m ≡ m' = sym (size_kept other) in
           let but : NumbersBut length m' m' slots' (first_leaf m' part) (last_leaf m' part + 1) work
-          = kept_numbers part-inside length m' (kept-before other refl) (kept-behind other refl) (subst (λ (M : ℕ). NumbersIn length M M slots work) size counts_in) in
-          placed_but but new-counts-in (counts_order ∙ ap (λ (M : ℕ). count_order (height M) work) size) (work_length ∙ sym work'-length) (rw (← drawn.size_is, work_length) new-fit)
+          = kept_numbers part_inside length m' (kept_before other refl) (kept_behind other refl) (subst (λ (M : ℕ). NumbersIn length M M slots work) size counts_in) in
+          placed_but but new_counts_in (counts_order ∙ ap (λ (M : ℕ). count_order (height M) work) size) (work_length ∙ sym work'-length) (rw (← drawn.size_is, work_length) new_fit)
 
       -- what writing the change asks
-      pub write-ready : WriteReady d (store_of slots counts) work'
-      write-ready = record {
-        part_ready = lay-part-ready;
+      pub write_ready : WriteReady d (store_of slots counts) work'
+      write_ready = record {
+        part_ready = lay_part_ready;
         count =
             part_count cap c.list c.shape drawn.shape change e part planned m m' slots work' p.admitted.size drawn.size_is slots_are work'-are;
         lengths = counts_length ∙ sym work'-length;
-        few = omega (arith, sizes-most.1, ready.few);
-        room = rw (← drawn.size_is, work'-length) new-fit;
+        few = omega (arith, sizes_most.1, ready.few);
+        room = rw (← drawn.size_is, work'-length) new_fit;
         placed = placed;
       }
 
@@ -369,20 +369,20 @@ module _ {cap : Capacity} (ready : CapacityReady cap) {change : Change} {e n m :
           number : after ≡ count_after (edit_of (plain_change change e)).change (length c.list)
           number = a ∙ rw (edit_change change e, p.admitted.count)
 
-          new-slots : slots' ≡ lay_slots cap.slots (applied (edit_of (plain_change change e)) c.list) drawn.shape
-          new-slots =
+          new_slots : slots' ≡ lay_slots cap.slots (applied (edit_of (plain_change change e)) c.list) drawn.shape
+          new_slots =
               ap (λ (t : Store). t.slots) Store-is
               ∙ part_laid cap c.list c.shape drawn.shape change e part planned m m' slots work' p.admitted.size drawn.size_is slots_are work'-are
               ∙ rw (edit_list change e c.list)
 
-          number-after : count_after change (length c.list) ≡ length (applied (edit_of (plain_change change e)) c.list)
-          number-after = entries ∙ ap length (sym (edit_list change e c.list))
+          number_after : count_after change (length c.list) ≡ length (applied (edit_of (plain_change change e)) c.list)
+          number_after = entries ∙ ap length (sym (edit_list change e c.list))
 
-          new-counts : counts' ≡ lay_counts cap.counts (length (applied (edit_of (plain_change change e)) c.list)) drawn.shape
-          new-counts =
+          new_counts : counts' ≡ lay_counts cap.counts (length (applied (edit_of (plain_change change e)) c.list)) drawn.shape
+          new_counts =
               ap (λ (t : Store). t.counts) Store-is
               ∙ ap₂ (λ (M : ℕ) (xs : List ℕ). count_order (height M) xs) (sym drawn.size_is)
-              (work'-are ∙ ap (λ (j : ℕ). shape_counts cap.counts j drawn.shape) number-after)
+              (work'-are ∙ ap (λ (j : ℕ). shape_counts cap.counts j drawn.shape) number_after)
 
           laid : outcome_of (Changed after next) slots' counts' []
               ≡ record {
@@ -390,4 +390,4 @@ module _ {cap : Capacity} (ready : CapacityReady cap) {change : Change} {e n m :
                 store = lay_out cap (applied (edit_of (plain_change change e)) c.list) drawn.shape;
                 output = [];
               }
-          laid = λ i. outcome_of (Changed (number i) next) (new-slots i) (new-counts i) []
+          laid = λ i. outcome_of (Changed (number i) next) (new_slots i) (new_counts i) []

@@ -8,7 +8,7 @@ use Rattle.call_outcomes.specs.Kind.{Kind, Lawful, CallFor, StoreFor}
 use Rattle.call_outcomes.specs.Causes.{argument_cause}
 use Rattle.call_outcomes.specs.Outcome.{list_after}
 use Rattle.call_history.specs.History.{history, next_list, final_list, list_at_end, SameTable}
-use Rattle.call_history.specs.Independence.{history_independent}
+use Rattle.call_history.proofs.Independence.{history_independent}
 use Rattle.call_history.specs.Refusals.{goes_on}
 use Rattle.call_corrections.specs.Accepted.{AcceptedOn, AllAccepted}
 

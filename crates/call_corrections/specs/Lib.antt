@@ -1,5 +1,3 @@
 -- Corrections in either order (document 02, F-10): definitions first, then their laws.
 pub mod Accepted
 pub mod Exchange
-pub mod Corrections
-pub mod TimedCorrections

@@ -18,9 +18,9 @@ use Rattle.call_outcomes.specs.DecisionLaws.{outcome_refused}
 use Rattle.call_outcomes.specs.PlainCalls.{place_of, count_of, question_cause, placed, reply_to, delete, place, check, changing, plain_change}
 use Rattle.call_outcomes.specs.Plain.{plain_view, plain, PlainStore, PlainLengths, plain_store_of}
 use Rattle.call_outcomes.specs.PlainCallLaws.{edit_list}
-use Rattle.call_outcomes.specs.PlainLaws.{plain_right, no_sheet}
+use Rattle.call_outcomes.proofs.PlainLaws.{plain_right, no_sheet}
 use Rattle.call_outcomes.specs.Clubs.{clubs, zeros}
-use Rattle.call_outcomes.specs.ClubsLaws.{clubs_lawful}
+use Rattle.call_outcomes.proofs.ClubsLaws.{clubs_lawful}
 use Rattle.call_history.specs.SingleCalls.{answered_by_lem, changed_by_lem}
 
 -- The store is a sheet of the list in the clubs' store: some size and balance entries lay it out.

@@ -13,14 +13,14 @@ use Rattle.base.specs.Lists.{total}
 use Rattle.base.specs.ListLaws.{total_append}
 use Rattle.draw_shares.specs.Program.{done}
 use Rattle.draw_shares.specs.Tape.{ran, run_at, faces_on}
-use Rattle.draw_shares.specs.TapeLaws.{run_follows, run_within}
-use Rattle.draw_shares.specs.LongerTapeLaws.{tape_unique}
+use Rattle.draw_shares.proofs.TapeLaws.{run_follows, run_within}
+use Rattle.draw_shares.proofs.LongerTapeLaws.{tape_unique}
 use Rattle.draw_shares.specs.Course.{Follows}
 use Rattle.draw_shares.specs.CourseLaws.{follows_bind}
 use Rattle.draw_shares.specs.CourseRuns.{decided, deciding_runs, among_of, numbers_on}
-use Rattle.draw_shares.specs.CourseRunsLaws.{decided_front, decided_back, course_fair}
-use Rattle.draw_shares.specs.DecidedLaws.{Decides, decided_run, run_decided, run_read}
-use Rattle.draw_shares.specs.BindRunsLaws.{decided_bind, Parts, decided_apart}
+use Rattle.draw_shares.proofs.CourseRunsLaws.{decided_front, decided_back, course_fair}
+use Rattle.draw_shares.proofs.DecidedLaws.{Decides, decided_run, run_decided, run_read}
+use Rattle.draw_shares.proofs.BindRunsLaws.{decided_bind, Parts, decided_apart}
 use Rattle.call_outcomes.specs.Kind.{Kind, CallFor, StoreFor}
 use Rattle.call_outcomes.specs.Causes.{Decision, refuse, accept, decision}
 use Rattle.call_outcomes.specs.Outcome.{refused, finished, outcome_by, outcome, call_program_by, call_program}

@@ -5,11 +5,11 @@ use mathlib.Core.List.{List, []}
 use Rattle.std.proofs.Math.Option.{Option, some, none}
 use Rattle.draw_shares.specs.Program.{Ends}
 use Rattle.draw_shares.specs.ProgramLaws.{ends_bind, ends_done}
-use Rattle.draw_shares.specs.TapeLaws.{follows_ends}
+use Rattle.draw_shares.proofs.TapeLaws.{follows_ends}
 use Rattle.tree_rules.specs.Tree.{Shape, IsShape}
 use Rattle.tree_rules.specs.Compare.{count_after}
 use Rattle.tree_rules.specs.Rules.{InReach, update}
-use Rattle.tree_rules.specs.ShapeLaws.{update_ends}
+use Rattle.tree_rules.proofs.ShapeLaws.{update_ends}
 use Rattle.tree_rules.specs.ChangeListLaws.{length_changed}
 use Rattle.call_outcomes.specs.declared.Cause.{Cause}
 use Rattle.call_outcomes.specs.declared.Cause.TheVariants.{TapeEnded}

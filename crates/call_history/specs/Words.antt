@@ -4,7 +4,7 @@ use Rattle.std.proofs.Math.Path.{refl}
 use mathlib.Core.List.{List, [], ◌∷◌}
 use Rattle.draw_shares.specs.Program.{Program}
 use Rattle.draw_shares.specs.Tape.{Ran, ran, ended, run_at, faces_on}
-use Rattle.draw_shares.specs.TapeLaws.{run_done, run_follows}
+use Rattle.draw_shares.proofs.TapeLaws.{run_done, run_follows}
 use Rattle.draw_shares.specs.Course.{Follows}
 use Rattle.draw_shares.specs.CourseLaws.{follows_bind, follows_unique}
 use Rattle.call_outcomes.specs.declared.Cause.TheVariants.{TapeEnded}

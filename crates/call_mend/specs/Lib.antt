@@ -1,4 +1,3 @@
 -- Mending a spoiled sheet: definitions first, then their laws.
 pub mod Mending
 pub mod Views
-pub mod MendingLaws

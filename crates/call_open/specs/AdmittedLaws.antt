@@ -13,11 +13,11 @@ use Rattle.call_outcomes.specs.Kind.{View, change, ask, Kind, CallFor, StoreFor}
 use Rattle.call_outcomes.specs.Causes.{Decision, refuse, accept, store_decision, looked_at, argument_cause, by_arguments, decision}
 use Rattle.call_outcomes.specs.Outcome.{refused, outcome}
 use Rattle.call_outcomes.specs.DecisionLaws.{store_accepted, outcome_refused}
-use Rattle.call_outcomes.specs.AcceptedLaws as accepted
+use Rattle.call_outcomes.proofs.AcceptedLaws as accepted
 use Rattle.call_outcomes.specs.PlainCalls.{PlainChange, change_cause}
 use Rattle.call_outcomes.specs.Untallied.{untallied_view, untallied}
-use Rattle.call_outcomes.specs.UntalliedLaws.{found_decode}
-use Rattle.call_outcomes.specs.SliceLaws.{SliceHolds, slice_holds}
+use Rattle.call_outcomes.proofs.UntalliedLaws.{found_decode}
+use Rattle.call_outcomes.proofs.SliceLaws.{SliceHolds, slice_holds}
 use Rattle.call_outcomes.specs.Plain.{tally_slice, plain_view, PlainStore}
 use Rattle.call_open.specs.declared.Opened.{Opened}
 use Rattle.call_open.specs.declared.Opened.TheVariants as opened
@@ -26,11 +26,11 @@ use Rattle.call_open.specs.Opening.{opened_as, Opening, plain_numbers, OpenedSto
 -- ---- the causes of the arguments
 
 -- Causes that go by the number of entries.
-opened_admitted : (causes : ℕ → Option Cause) (by-list : List ℕ → Option Cause) → ((list : List ℕ) → by-list list ≡ causes (length list)) → (d : Decision)
-    → admitted causes (opened_as d) ≡ opened_as (by_arguments by-list d)
+opened_admitted : (causes : ℕ → Option Cause) (by_list : List ℕ → Option Cause) → ((list : List ℕ) → by_list list ≡ causes (length list)) → (d : Decision)
+    → admitted causes (opened_as d) ≡ opened_as (by_arguments by_list d)
 unfolding admitted admitted_by opened_as by_arguments
-opened_admitted causes by-list same (refuse cause) = refl
-opened_admitted causes by-list same (accept c) =
+opened_admitted causes by_list same (refuse cause) = refl
+opened_admitted causes by_list same (accept c) =
     subst (λ (o : Option Cause). admitted_by (causes (length c.list)) (length c.list) c.shape.size ≡ opened_as (elim o [ some cause ↦ refuse cause | none ↦ accept c ]))
     (sym (same c.list)) (go (causes (length c.list)))
   where

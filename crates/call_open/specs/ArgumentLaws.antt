@@ -54,13 +54,13 @@ module _ {o : Opened} where
     -- ---- a place
 
     module _ (i : ℕ) where
-      pub rank-refused : n ≤ i → opened.Refused Rank ≡ admitted (question_cause (place_of i)) o
+      pub rank_refused : n ≤ i → opened.Refused Rank ≡ admitted (question_cause (place_of i)) o
       unfolding question_cause first_of
-      rank-refused h = refused_by (question_cause (place_of i)) Rank (rw (le-leb n i h))
+      rank_refused h = refused_by (question_cause (place_of i)) Rank (rw (le-leb n i h))
 
-      pub rank-admitted : i < n → opened.Sheet n m ≡ admitted (question_cause (place_of i)) o
+      pub rank_admitted : i < n → opened.Sheet n m ≡ admitted (question_cause (place_of i)) o
       unfolding question_cause first_of
-      rank-admitted h = admitted_by_lem (question_cause (place_of i)) (rw (lt-leb n i h))
+      rank_admitted h = admitted_by_lem (question_cause (place_of i)) (rw (lt-leb n i h))
 
     -- ---- an insert
 
@@ -72,17 +72,17 @@ module _ {o : Opened} where
       unfolding change_cause first_of
       insert_zero h = refused_by inserting EntryZero (rw (eq-eqb e 0 h))
 
-      pub insert-rank : e ≢ 0 → n < i → opened.Refused Rank ≡ admitted inserting o
+      pub insert_rank : e ≢ 0 → n < i → opened.Refused Rank ≡ admitted inserting o
       unfolding change_cause first_of
-      insert-rank entry h = refused_by inserting Rank (rw (ne_eqb e 0 entry, lt-ltb n i h))
+      insert_rank entry h = refused_by inserting Rank (rw (ne_eqb e 0 entry, lt-ltb n i h))
 
-      pub insert-full : e ≢ 0 → i ≤ n → entries ≤ n → opened.Refused Full ≡ admitted inserting o
+      pub insert_full : e ≢ 0 → i ≤ n → entries ≤ n → opened.Refused Full ≡ admitted inserting o
       unfolding change_cause first_of
-      insert-full entry rank h = refused_by inserting Full (rw (ne_eqb e 0 entry, le-ltb n i rank, le-leb entries n h))
+      insert_full entry rank h = refused_by inserting Full (rw (ne_eqb e 0 entry, le-ltb n i rank, le-leb entries n h))
 
-      pub insert-admitted : e ≢ 0 → i ≤ n → n < entries → opened.Sheet n m ≡ admitted inserting o
+      pub insert_admitted : e ≢ 0 → i ≤ n → n < entries → opened.Sheet n m ≡ admitted inserting o
       unfolding change_cause first_of
-      insert-admitted entry rank h = admitted_by_lem inserting (rw (ne_eqb e 0 entry, le-ltb n i rank, lt-leb entries n h))
+      insert_admitted entry rank h = admitted_by_lem inserting (rw (ne_eqb e 0 entry, le-ltb n i rank, lt-leb entries n h))
 
     -- ---- a read
 
@@ -90,18 +90,18 @@ module _ {o : Opened} where
       abbrev reading : ℕ → Option Cause
       reading = question_cause (read_ranks first last room)
 
-      read-out-of : (leb n first || leb n last || ltb last first) ≡ true → opened.Refused Rank ≡ admitted reading o
+      read_out_of : (leb n first || leb n last || ltb last first) ≡ true → opened.Refused Rank ≡ admitted reading o
       unfolding question_cause first_of
-      read-out-of h = refused_by reading Rank (rw h)
+      read_out_of h = refused_by reading Rank (rw h)
 
       pub read_first : n ≤ first → opened.Refused Rank ≡ admitted reading o
-      read_first h = read-out-of (rw (le-leb n first h))
+      read_first h = read_out_of (rw (le-leb n first h))
 
-      pub read-last : n ≤ last → opened.Refused Rank ≡ admitted reading o
-      read-last h = read-out-of (rw (le-leb n last h, or-true (leb n first)))
+      pub read_last : n ≤ last → opened.Refused Rank ≡ admitted reading o
+      read_last h = read_out_of (rw (le-leb n last h, or-true (leb n first)))
 
-      pub read-order : last < first → opened.Refused Rank ≡ admitted reading o
-      read-order h = read-out-of (rw (lt-ltb last first h, or-true (leb n first || leb n last)))
+      pub read_order : last < first → opened.Refused Rank ≡ admitted reading o
+      read_order h = read_out_of (rw (lt-ltb last first h, or-true (leb n first || leb n last)))
 
       module _ (a : first < n) (b : last < n) (c : first ≤ last) where
         pub read_short : room < last - first + 1 → opened.Refused OutputShort ≡ admitted reading o
@@ -109,9 +109,9 @@ module _ {o : Opened} where
         read_short h =
             refused_by reading OutputShort (rw (lt-leb n first a, lt-leb n last b, le-ltb last first c, lt-ltb room (last - first + 1) h))
 
-        pub read-admitted : last - first + 1 ≤ room → opened.Sheet n m ≡ admitted reading o
+        pub read_admitted : last - first + 1 ≤ room → opened.Sheet n m ≡ admitted reading o
         unfolding question_cause first_of
-        read-admitted h =
+        read_admitted h =
             admitted_by_lem reading (rw (lt-leb n first a, lt-leb n last b, le-ltb last first c, le-ltb room (last - first + 1) h))
 
     -- ---- a board
@@ -120,9 +120,9 @@ module _ {o : Opened} where
       abbrev board : ℕ → Option Cause
       board = question_cause (board_of ranks room)
 
-      pub board-many : 64 < length ranks → opened.Refused BoardRanks ≡ admitted board o
+      pub board_many : 64 < length ranks → opened.Refused BoardRanks ≡ admitted board o
       unfolding question_cause first_of
-      board-many h = refused_by board BoardRanks (rw (lt-ltb 64 (length ranks) h))
+      board_many h = refused_by board BoardRanks (rw (lt-ltb 64 (length ranks) h))
 
       pub board_falls : falls ranks ≡ true → opened.Refused BoardRanks ≡ admitted board o
       unfolding question_cause first_of
@@ -134,10 +134,10 @@ module _ {o : Opened} where
         board_rank h = refused_by board Rank (rw (le-ltb 64 (length ranks) few, in_order, h))
 
         module _ (inside : some_from n ranks ≡ false) where
-          pub board-short : room < length ranks → opened.Refused OutputShort ≡ admitted board o
+          pub board_short : room < length ranks → opened.Refused OutputShort ≡ admitted board o
           unfolding question_cause first_of
-          board-short h = refused_by board OutputShort (rw (le-ltb 64 (length ranks) few, in_order, inside, lt-ltb room (length ranks) h))
+          board_short h = refused_by board OutputShort (rw (le-ltb 64 (length ranks) few, in_order, inside, lt-ltb room (length ranks) h))
 
-          pub board-admitted : length ranks ≤ room → opened.Sheet n m ≡ admitted board o
+          pub board_admitted : length ranks ≤ room → opened.Sheet n m ≡ admitted board o
           unfolding question_cause first_of
-          board-admitted h = admitted_by_lem board (rw (le-ltb 64 (length ranks) few, in_order, inside, le-ltb room (length ranks) h))
+          board_admitted h = admitted_by_lem board (rw (le-ltb 64 (length ranks) few, in_order, inside, le-ltb room (length ranks) h))

@@ -7,12 +7,12 @@ use Rattle.tree_rules.specs.Tree.{Shape}
 use Rattle.tree_counts.specs.RangeLaws.{balanced_perfect}
 use Rattle.store_layout.specs.declared.Capacity.{Capacity}
 use Rattle.store_layout.specs.Layout.{Store, leaf_counts, lay_leaves, pad_to, lay_slots, lay_counts, lay_out}
-use Rattle.store_layout.specs.LayoutLaws.{length_leaf_counts, length_lay_leaves}
+use Rattle.store_layout.proofs.LayoutLaws.{length_leaf_counts, length_lay_leaves}
 use Rattle.store_layout.specs.Leaf.{nonzero}
 use Rattle.store_layout.specs.Sheet.{IsContents}
 use Rattle.store_layout.specs.Decode.{Contents}
 use Rattle.store_layout.specs.Room.{CapacityReady}
-use Rattle.store_layout.specs.SheetLaws.{decode_sound, leaves_lay_out, length_slots, length_counts}
+use Rattle.store_layout.proofs.SheetLaws.{decode_sound, leaves_lay_out, length_slots, length_counts}
 use Rattle.call_outcomes.specs.Untallied.{store_of}
 use Rattle.call_open.specs.Opening.{OpenedSheet}
 

@@ -9,15 +9,15 @@ use Rattle.tree_sizes.specs.Sizes.{height}
 use Rattle.store_layout.specs.declared.Capacity.{Capacity}
 use Rattle.store_layout.specs.Layout.{Store}
 use Rattle.store_order.specs.CountOrder.{count_order, number_order}
-use Rattle.store_order.specs.CountOrderLaws.{length_number_order, number_order_size, number_order_root, count_number}
+use Rattle.store_order.proofs.CountOrderLaws.{length_number_order, number_order_size, number_order_root, count_number}
 use Rattle.store_layout.specs.Decode.{list_of, numbered, shape_of, sheet_test, decode}
 use Rattle.store_layout.specs.Room.{CapacityReady}
 use Rattle.store_layout.specs.RoomLaws.{counts_enough}
-use Rattle.store_layout.specs.SheetLaws.{decode_true, decode_false, size_refused, size_known, count_is}
+use Rattle.store_layout.proofs.SheetLaws.{decode_true, decode_false, size_refused, size_known, count_is}
 use Rattle.call_outcomes.specs.declared.Cause.TheVariants.{Lengths, NotASheet}
 use Rattle.call_outcomes.specs.Causes.{by_lengths, by_found, store_decision}
 use Rattle.call_outcomes.specs.Untallied.{right_lengths, found_by, untallied_view, store_of}
-use Rattle.call_outcomes.specs.UntalliedLaws.{lengths_right}
+use Rattle.call_outcomes.proofs.UntalliedLaws.{lengths_right}
 use Rattle.call_open.specs.declared.Opened.TheVariants as opened
 use Rattle.call_open.specs.Opening.{opened_as, Opening}
 
@@ -74,23 +74,23 @@ module _ (cap : Capacity) (slots counts : List ℕ) where
           pub work_length : length work ≡ cap.counts
           work_length = rw copied (length_number_order (height (get_or counts 0 0)) counts) ∙ counts_are
 
-          work-size : get_or work 0 0 ≡ get_or counts 0 0
-          work-size = rw copied (number_order_size (height (get_or counts 0 0)) counts)
+          work_size : get_or work 0 0 ≡ get_or counts 0 0
+          work_size = rw copied (number_order_size (height (get_or counts 0 0)) counts)
 
           back : count_order (height (get_or work 0 0)) work ≡ counts
-          back = rw (work-size, copied) (count_number (height (get_or counts 0 0)) counts read_room)
+          back = rw (work_size, copied) (count_number (height (get_or counts 0 0)) counts read_room)
 
           -- the test that the code makes
           module _ {test : Bool} (test_is : test ≡ sheet_test cap (record { slots = slots; counts = count_order (height (get_or work 0 0)) work })) where
             tested : sheet_test cap store ≡ test
             tested = sym (test_is ∙ rw back)
 
-            pub open-other : test ≡ false → Opening (untallied_view cap) numbered store (opened.Refused NotASheet) work
-            open-other h = open_none (tested ∙ h) work
+            pub open_other : test ≡ false → Opening (untallied_view cap) numbered store (opened.Refused NotASheet) work
+            open_other h = open_none (tested ∙ h) work
 
-            pub open-sheet : test ≡ true → Opening (untallied_view cap) numbered store (opened.Sheet (get_or work 1 0) (get_or counts 0 0)) work
+            pub open_sheet : test ≡ true → Opening (untallied_view cap) numbered store (opened.Sheet (get_or work 1 0) (get_or counts 0 0)) work
             unfolding store_decision by_lengths by_found found_by opened_as numbered
-            open-sheet h =
+            open_sheet h =
                 let found : decode cap store ≡ some (record { list = list_of store; shape = shape_of store }) = decode_true cap store (tested ∙ h) in
                 let entries : get_or work 1 0 ≡ length (list_of store)
                 = rw copied (number_order_root (height (get_or counts 0 0)) counts) ∙ count_is cap ready.roomy store _ found in

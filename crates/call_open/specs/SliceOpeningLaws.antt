@@ -8,7 +8,7 @@ use Rattle.call_outcomes.specs.declared.Cause.TheVariants.{Lengths}
 use Rattle.call_outcomes.specs.Kind.{View}
 use Rattle.call_outcomes.specs.Causes.{Decision, refuse, accept, by_found, store_decision}
 use Rattle.call_outcomes.specs.Slice.{Slice, Sliced, slice_test, found_if, with_slice}
-use Rattle.call_outcomes.specs.SliceLaws.{slice_lengths, sheet-refused, sheet-accepted}
+use Rattle.call_outcomes.proofs.SliceLaws.{slice_lengths, sheet_refused, sheet_accepted}
 use Rattle.call_open.specs.declared.Opened.{Opened}
 use Rattle.call_open.specs.declared.Opened.TheVariants as opened
 use Rattle.call_open.specs.Opening.{opened_as, Opening, OpenedStore}
@@ -38,19 +38,19 @@ module _ (view : View) (further : Slice) (numbers : view.Store → List ℕ) (st
       where
         go : (d : Decision) → store_decision view store.sheet ≡ d → opened_as d ≡ opened.Refused cause → Looks (opened.Refused cause)
         go (refuse k) looked h =
-            let same : k ≡ cause = cc in refused_look cause (sheet-refused view further store right cause (looked ∙ ap refuse same))
+            let same : k ≡ cause = cc in refused_look cause (sheet_refused view further store right cause (looked ∙ ap refuse same))
         go (accept c) looked h = absurd (not_sheet (sym h))
 
     -- It is one, and the test of the slice decides.
     module _ {n m : ℕ} (o : OpenedStore view numbers store.sheet n m work) where
       tested : (b : Bool) → slice_test further store.slice o.contents ≡ b
           → store_decision (with_slice view further) store ≡ by_found (found_if further.cause b o.contents)
-      tested b t = sheet-accepted view further store right o.contents o.decided ∙ ap (λ (x : Bool). by_found (found_if further.cause x o.contents)) t
+      tested b t = sheet_accepted view further store right o.contents o.decided ∙ ap (λ (x : Bool). by_found (found_if further.cause x o.contents)) t
 
-      pub look-not : slice_test further store.slice o.contents ≡ false → Looks (opened.Refused further.cause)
+      pub look_not : slice_test further store.slice o.contents ≡ false → Looks (opened.Refused further.cause)
       unfolding by_found found_if
-      look-not t = refused_look further.cause (tested false t)
+      look_not t = refused_look further.cause (tested false t)
 
-      pub look-sheet : slice_test further store.slice o.contents ≡ true → Looks (opened.Sheet n m)
+      pub look_sheet : slice_test further store.slice o.contents ≡ true → Looks (opened.Sheet n m)
       unfolding by_found found_if opened_as
-      look-sheet t = record { found = rw (tested true t, o.count, o.size); copied = λ h. o.copied }
+      look_sheet t = record { found = rw (tested true t, o.count, o.size); copied = λ h. o.copied }

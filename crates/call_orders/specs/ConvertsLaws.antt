@@ -6,11 +6,11 @@ use Rattle.std.proofs.Math.Path.{refl, ap}
 use Rattle.std.proofs.Common.{sym}
 use Rattle.draw_shares.specs.Program.{done}
 use Rattle.draw_shares.specs.Tape.{Ran, ran, ended, run_at, after_run}
-use Rattle.draw_shares.specs.TapeLaws.{run_bind, run_ends}
+use Rattle.draw_shares.proofs.TapeLaws.{run_bind, run_ends}
 use Rattle.tree_rules.specs.Tree.{Shape, IsShape}
 use Rattle.tree_rules.specs.Compare.{count_after}
 use Rattle.tree_rules.specs.Rules.{InReach, update}
-use Rattle.tree_rules.specs.ShapeLaws.{update_ends}
+use Rattle.tree_rules.proofs.ShapeLaws.{update_ends}
 use Rattle.tree_rules.specs.ChangeListLaws.{length_changed}
 use Rattle.store_layout.specs.Decode.{Contents}
 use Rattle.store_layout.specs.EmptyLaws.{empty_shape_lem}

@@ -2,6 +2,4 @@
 pub mod Conversion
 pub mod NumberOrder
 pub mod Converts
-pub mod ConversionLaws
 pub mod ConvertsLaws
-pub mod OrderLaws

@@ -2,7 +2,7 @@
 use Rattle.std.specs.Prelude.{◌≡◌, refl, List, ℕ, ◌≤◌, ◌<◌, ◌^◌, length}
 use Rattle.std.proofs.Common.{arith}
 use Rattle.draw_shares.specs.Tape.{Ran, ran, ended, run_at}
-use Rattle.draw_shares.specs.TapeLaws.{run_within}
+use Rattle.draw_shares.proofs.TapeLaws.{run_within}
 use Rattle.store_layout.specs.Decode.{Contents}
 use Rattle.call_outcomes.specs.declared.Cause.{Cause}
 use Rattle.call_outcomes.specs.declared.Cause.TheVariants as cause

@@ -3,7 +3,7 @@
 use Rattle.std.specs.Prelude.{ℕ, ◌≤◌}
 use Rattle.std.proofs.Common.{arith}
 use Rattle.tree_sizes.specs.Sizes.{height, Allowed, Fits}
-use Rattle.tree_sizes.specs.Fit.{fit}
+use Rattle.tree_sizes.proofs.Fit.{fit}
 use Rattle.call_outcomes.specs.Clubs.{clubs}
 use Rattle.call_outcomes.specs.Federation.{federation}
 

@@ -15,11 +15,5 @@ pub mod ChangeLaws
 pub mod AnswerLaws
 pub mod LongerTapeLaws
 pub mod PlainCallLaws
-pub mod UntalliedLaws
-pub mod SliceLaws
-pub mod PlainLaws
-pub mod AcceptedLaws
-pub mod ClubsLaws
-pub mod FederationLaws
 pub mod FitLaws
 pub mod Examples

@@ -1,7 +1,7 @@
 -- A call that is not refused by 7 has the same outcome on every longer tape that begins with the same words.
 use Rattle.std.specs.Prelude.{◌≡◌, refl, ◌≢◌, List, ◌++◌, ℕ}
 use Rattle.draw_shares.specs.Tape.{Ran, ran, ended, run_at}
-use Rattle.draw_shares.specs.LongerTapeLaws.{run_longer}
+use Rattle.draw_shares.proofs.LongerTapeLaws.{run_longer}
 use Rattle.call_outcomes.specs.declared.Cause.TheVariants.{TapeEnded}
 use Rattle.call_outcomes.specs.declared.Answer.TheVariants.{Refused}
 use Rattle.call_outcomes.specs.Kind.{Kind, CallFor, StoreFor}

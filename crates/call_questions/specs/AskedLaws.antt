@@ -38,10 +38,10 @@ module _ (kind : Kind) (store : StoreFor kind) {found : Opened} (is : found ≡ 
       abbrev leaves : Reply → Outcome (StoreFor kind)
       leaves r = record { answer = r.answer; store = store; output = r.output }
 
-      by-found : (o : Opened) → admitted (question_cause p) found ≡ o → leaves (asked_by p list output o) ≡ outcome kind (ask q) tape store output
+      by_found : (o : Opened) → admitted (question_cause p) found ≡ o → leaves (asked_by p list output o) ≡ outcome kind (ask q) tape store output
       unfolding asked_by looked_at
-      by-found (opened.Refused cause) e = call_refused kind (ask q) store decided tape output e
-      by-found (opened.Sheet n m) e =
+      by_found (opened.Refused cause) e = call_refused kind (ask q) store decided tape output e
+      by_found (opened.Sheet n m) e =
           let w = call_admitted kind (ask q) store decided e in
           let of-list = lists w.contents (accepted kind (ask q) store w.contents w.decided).0 in
           sym (question_outcome kind q tape store output w.contents w.decided ∙ rw (of-list, same.reply list, same.written list))
@@ -50,7 +50,7 @@ module _ (kind : Kind) (store : StoreFor kind) {found : Opened} (is : found ≡ 
       pub asked_outcome : (answer : Answer) (output' : List ℕ) → record { answer = answer; output = output' } ≡ asked p found list output
           → record { answer = answer; store = store; output = output' } ≡ outcome kind (ask q) tape store output
       unfolding asked
-      asked_outcome answer output' e = ap leaves e ∙ by-found (admitted (question_cause p) found) refl
+      asked_outcome answer output' e = ap leaves e ∙ by_found (admitted (question_cause p) found) refl
 
     -- So is an answer that goes by the number of entries alone, where nothing is written.
     module _ (nothing : written_for p list ≡ []) where

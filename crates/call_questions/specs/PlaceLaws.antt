@@ -26,7 +26,7 @@ use Rattle.call_open.specs.declared.Opened.{Opened}
 use Rattle.call_open.specs.declared.Opened.TheVariants as opened
 use Rattle.call_open.specs.Opening.{admitted, OpenedSheet}
 use Rattle.call_questions.specs.Asked.{asked_by, asked}
-use Rattle.call_questions.specs.StartLaws.{entries_number, from_start, start-place}
+use Rattle.call_questions.specs.StartLaws.{entries_number, from_start, start_place}
 
 -- ---- the leaf that is found
 
@@ -56,7 +56,7 @@ module _ {cap : Capacity} {slots counts work : List ℕ} {n m : ℕ} (w : Opened
   rank_parted =
       let front = entries_before slots start.slot in
       let rest = nonzero (drop start.slot slots) in
-      let place = start-place w ready rank is (omega (arith, below, entries_number w)) in
+      let place = start_place w ready rank is (omega (arith, below, entries_number w)) in
       ap (take rank) (parted slots start.slot) ∙ ap (λ (k : ℕ). take k (front ++ rest)) place ∙ take-append-add front rest start.rank
 
   -- The number of scoring boats before her, found on the path down, is that of counting the full list.

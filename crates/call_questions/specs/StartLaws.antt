@@ -12,7 +12,7 @@ use Rattle.store_layout.specs.Decode.{Contents, list_of, decode}
 use Rattle.store_layout.specs.Room.{CapacityReady}
 use Rattle.store_layout.specs.RoomLaws.{counts_enough}
 use Rattle.store_layout.specs.NumberedLaws.{length_numbered}
-use Rattle.store_layout.specs.SheetLaws.{decoded, decode_sound, length_counts}
+use Rattle.store_layout.proofs.SheetLaws.{decoded, decode_sound, length_counts}
 use Rattle.store_rank.specs.declared.Start.{Start}
 use Rattle.store_rank.specs.LeafOf.{start_of}
 use Rattle.store_rank.specs.LeafOfLaws.{decoded_start}
@@ -56,9 +56,9 @@ module _ {cap : Capacity} {slots counts work : List ℕ} {n m : ℕ} (w : Opened
       pub from_start : drop start.rank (nonzero (drop start.slot slots)) ≡ drop rank (nonzero slots)
       from_start = rw (is, w.copied, ← w.size) (sym (decoded_start cap ready.roomy rank (store_of slots counts) w.contents w.decoded))
 
-      pub start-enough : (count : ℕ) → 0 < count → rank + count ≤ length (nonzero slots)
+      pub start_enough : (count : ℕ) → 0 < count → rank + count ≤ length (nonzero slots)
           → start.rank + count ≤ length (nonzero (drop start.slot slots))
-      start-enough count pos enough =
+      start_enough count pos enough =
           omega (
             arith,
             ap length from_start,
@@ -68,8 +68,8 @@ module _ {cap : Capacity} {slots counts work : List ℕ} {n m : ℕ} (w : Opened
 
       -- The entries before the leaf are the first ones, by as many as the rank is higher than that in the leaf.
       module _ (below : rank < length (nonzero slots)) where
-        pub start-place : rank ≡ length (entries_before slots start.slot) + start.rank
-        start-place =
+        pub start_place : rank ≡ length (entries_before slots start.slot) + start.rank
+        start_place =
             let front = entries_before slots start.slot in
             let rest = nonzero (drop start.slot slots) in
             omega (
@@ -82,9 +82,9 @@ module _ {cap : Capacity} {slots counts work : List ℕ} {n m : ℕ} (w : Opened
               below,
             )
 
-        pub start-passed : nonzero (drop start.slot slots) ≡ drop (rank - start.rank) (nonzero slots)
-        start-passed =
+        pub start_passed : nonzero (drop start.slot slots) ≡ drop (rank - start.rank) (nonzero slots)
+        start_passed =
             let front = entries_before slots start.slot in
             let rest = nonzero (drop start.slot slots) in
-            let passed : rank - start.rank ≡ length front = omega (arith, start-place) in
+            let passed : rank - start.rank ≡ length front = omega (arith, start_place) in
             sym (ap (drop (rank - start.rank)) (parted slots start.slot) ∙ rw passed (drop-append_seam front rest))

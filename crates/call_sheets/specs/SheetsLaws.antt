@@ -21,8 +21,8 @@ use Rattle.tree_shapes.specs.MemberLaws.{map_member}
 use Rattle.tree_shapes.specs.SumLaws.{shares_sum}
 use Rattle.call_outcomes.specs.Kind.{View, empty, LawfulView, SheetOf, Kind, Lawful, CallFor, StoreFor}
 use Rattle.call_history.specs.History.{history, list_at_end}
-use Rattle.call_history.specs.Independence.{end_list}
-use Rattle.call_history.specs.Shares.{same_test, sheet_share, positive_sheets}
+use Rattle.call_history.proofs.Independence.{end_list}
+use Rattle.call_history.proofs.Shares.{same_test, sheet_share, positive_sheets}
 use Rattle.call_sheets.specs.Sheets.{sheets, whole_numbers}
 
 module _ (view : View) (laws : LawfulView view) (list : List ℕ) (w : view.IsList list) where

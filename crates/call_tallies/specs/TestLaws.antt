@@ -13,7 +13,7 @@ use Rattle.store_layout.specs.declared.Capacity.{Capacity}
 use Rattle.store_layout.specs.Leaf.{nonzero}
 use Rattle.store_layout.specs.Room.{CapacityReady}
 use Rattle.store_layout.specs.Decode.{numbered}
-use Rattle.store_layout.specs.SheetLaws.{numbered_lay_out}
+use Rattle.store_layout.proofs.SheetLaws.{numbered_lay_out}
 use Rattle.store_scoring.specs.Scoring.{none_retired}
 use Rattle.store_tallies.specs.Tallies.{range_tallies, lay_tallies}
 use Rattle.store_tallies.specs.TalliesIn.{TalliesIn}

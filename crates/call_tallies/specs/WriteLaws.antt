@@ -17,7 +17,7 @@ use Rattle.tree_counts.specs.Counts.{shape_counts}
 use Rattle.tree_counts.specs.CountLaws.{holds_count}
 use Rattle.tree_counts.specs.ShapeCountLaws.{length_shape_counts}
 use Rattle.store_order.specs.CountOrder.{count_order, number_order}
-use Rattle.store_order.specs.CountOrderLaws.{number_order_root, length_number_order, count_number, number_count}
+use Rattle.store_order.proofs.CountOrderLaws.{number_order_root, length_number_order, count_number, number_count}
 use Rattle.store_layout.specs.declared.Capacity.{Capacity}
 use Rattle.store_layout.specs.Layout.{lay_slots, lay_counts}
 use Rattle.store_layout.specs.Sheet.{IsContents}

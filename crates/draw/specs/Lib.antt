@@ -6,5 +6,4 @@ pub mod WordLaws
 pub mod Runs
 pub mod RunsLaws
 pub mod WordsReadLaws
-pub mod Fair
 pub mod Examples

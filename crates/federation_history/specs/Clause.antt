@@ -9,15 +9,15 @@ use Rattle.call_outcomes.specs.Kind.{SheetOf}
 use Rattle.call_outcomes.specs.Outcome.{call_program}
 use Rattle.call_outcomes.specs.PlainCalls.{Call}
 use Rattle.call_outcomes.specs.Plain.{plain_view, plain, PlainStore, PlainLengths, lay_plain, equal_plain}
-use Rattle.call_outcomes.specs.PlainLaws.{plain_right}
+use Rattle.call_outcomes.proofs.PlainLaws.{plain_right}
 use Rattle.call_outcomes.specs.Federation.{federation}
-use Rattle.call_outcomes.specs.FederationLaws.{federation_ready, federation_lawful}
+use Rattle.call_outcomes.proofs.FederationLaws.{federation_ready, federation_lawful}
 use Rattle.call_history.specs.History.{history, list_at_end, SameTable, Sent, clearing, last_store, NoneEnds, faces_sent, calls_of}
-use Rattle.call_history.specs.Supply.{program_draws, history_supplied}
-use Rattle.call_history.specs.PlainSupply.{plain_suppliable}
+use Rattle.call_history.proofs.Supply.{program_draws, history_supplied}
+use Rattle.call_history.proofs.PlainSupply.{plain_suppliable}
 use Rattle.call_history.specs.Words.{words_of}
-use Rattle.call_history.specs.Independence.{history_independent}
-use Rattle.call_history.specs.Shares.{sheet_share}
+use Rattle.call_history.proofs.Independence.{history_independent}
+use Rattle.call_history.proofs.Shares.{sheet_share}
 
 -- For every two histories, on stores that held anything at all before: every store has the same share in both exactly when both end with
 -- the same list.

@@ -8,14 +8,14 @@ use Rattle.tree_canonical.specs.ShapeShare.{shape_product}
 use Rattle.call_outcomes.specs.Kind.{Lawful, SheetOf}
 use Rattle.call_outcomes.specs.Outcome.{call_program}
 use Rattle.call_outcomes.specs.Federation.{federation}
-use Rattle.call_outcomes.specs.FederationLaws.{federation_roomy, federation_ready}
+use Rattle.call_outcomes.proofs.FederationLaws.{federation_roomy, federation_ready}
 use Rattle.call_history.specs.History.{history, list_at_end, SameTable, Sent, clearing, last_store, NoneEnds, faces_sent, calls_of}
-use Rattle.call_history.specs.Supply.{program_draws, history_supplied}
+use Rattle.call_history.proofs.Supply.{program_draws, history_supplied}
 use Rattle.call_history.specs.Words.{words_of}
-use Rattle.call_history.specs.Independence.{history_independent}
-use Rattle.call_history.specs.Shares.{sheet_share}
+use Rattle.call_history.proofs.Independence.{history_independent}
+use Rattle.call_history.proofs.Shares.{sheet_share}
 use Rattle.call_timed.specs.Timed.{TimedStore, lay_timed, TimedLengths, equal_timed, timed_view, timed, TimedCall}
-use Rattle.call_timed.specs.TimedLaws.{timed_right, timed_lawful}
+use Rattle.call_timed.proofs.TimedLaws.{timed_right, timed_lawful}
 use Rattle.timed_history.specs.TimedSupply.{timed_suppliable}
 
 pub federation_timed : Lawful (timed federation)

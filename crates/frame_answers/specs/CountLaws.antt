@@ -2,10 +2,10 @@
 use Rattle.std.specs.Prelude.{◌≡◌, length}
 use Rattle.std.proofs.Math.Option.{some}
 use Rattle.store_layout.specs.Decode.{Contents, decode}
-use Rattle.store_layout.specs.SheetLaws as sheet
+use Rattle.store_layout.proofs.SheetLaws as sheet
 use Rattle.call_outcomes.specs.Plain.{PlainStore}
 use Rattle.call_outcomes.specs.Clubs.{clubs}
-use Rattle.call_outcomes.specs.ClubsLaws.{clubs_roomy}
+use Rattle.call_outcomes.proofs.ClubsLaws.{clubs_roomy}
 use Rattle.frame_answers.specs.Step.{entry_count}
 
 pub count_is : (store : PlainStore) (c : Contents) → decode clubs store.sheet ≡ some c → entry_count store ≡ length c.list

@@ -6,7 +6,7 @@ use Rattle.call_outcomes.specs.Causes.{accept, looked_at, argument_cause, decisi
 use Rattle.call_outcomes.specs.DecisionLaws.{accepted, accepted_by}
 use Rattle.call_outcomes.specs.PlainCalls.{Question}
 use Rattle.call_outcomes.specs.Untallied.{untallied_view, untallied}
-use Rattle.call_outcomes.specs.SliceLaws.{slice_holds}
+use Rattle.call_outcomes.proofs.SliceLaws.{slice_holds}
 use Rattle.call_outcomes.specs.Plain.{tally_slice, plain, PlainStore}
 use Rattle.call_outcomes.specs.Clubs.{clubs}
 

@@ -17,7 +17,7 @@ use Rattle.call_outcomes.specs.AnswerLaws.{number_accepted}
 use Rattle.call_outcomes.specs.PlainCalls.{read_ranks, reply_to, read}
 use Rattle.call_outcomes.specs.Plain.{plain, PlainStore, plain_store_of, plain_outcome_of}
 use Rattle.call_outcomes.specs.PlainCallLaws.{read_within}
-use Rattle.call_outcomes.specs.AcceptedLaws.{question_free}
+use Rattle.call_outcomes.proofs.AcceptedLaws.{question_free}
 use Rattle.call_outcomes.specs.Clubs.{clubs}
 use Rattle.frame_lines.specs.Frame.{frame_of}
 use Rattle.frame_replies.specs.Reply.{Reply, brief, entries, placed, line_of, bytes_of}

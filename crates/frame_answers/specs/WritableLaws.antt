@@ -15,7 +15,7 @@ use Rattle.store_layout.specs.Leaf.{nonzero}
 use Rattle.store_layout.specs.Decode.{numbered, list_of}
 use Rattle.store_layout.specs.NumberedLaws.{every_numbered}
 use Rattle.store_layout.specs.RoomLaws.{counts_enough}
-use Rattle.store_layout.specs.SheetLaws.{decoded, decode_sound, size_known}
+use Rattle.store_layout.proofs.SheetLaws.{decoded, decode_sound, size_known}
 use Rattle.store_ties.specs.ExactLaws.{placing_most}
 use Rattle.call_outcomes.specs.Returns.{returned}
 use Rattle.call_outcomes.specs.Kind.{clear}
@@ -25,9 +25,9 @@ use Rattle.call_outcomes.specs.AnswerLaws.{number_fits, number_accepted}
 use Rattle.call_outcomes.specs.PlainCalls.{read_ranks, place_of, count_of, reply_to, written_for, insert, delete, read, place, check}
 use Rattle.call_outcomes.specs.Plain.{plain, PlainStore}
 use Rattle.call_outcomes.specs.PlainCallLaws.{place_within}
-use Rattle.call_outcomes.specs.AcceptedLaws.{question_decoded, question_free, entries_most}
+use Rattle.call_outcomes.proofs.AcceptedLaws.{question_decoded, question_free, entries_most}
 use Rattle.call_outcomes.specs.Clubs.{clubs}
-use Rattle.call_outcomes.specs.ClubsLaws.{clubs_roomy}
+use Rattle.call_outcomes.proofs.ClubsLaws.{clubs_roomy}
 use Rattle.frame_lines.specs.declared.Frame.{Frame}
 use Rattle.frame_lines.specs.declared.Frame.TheVariants.{Insert, Delete, Read, Tape, Print, Clear, Place, NoFrame}
 use Rattle.frame_tape.specs.Tape.{most_waiting}

@@ -6,8 +6,8 @@ use Rattle.base.specs.CaseLaws.{lt_or_ge}
 use Rattle.frame_input.specs.declared.Collected.{Collected}
 use Rattle.frame_input.specs.Lines.{left, collecting}
 use Rattle.frame_input.specs.Chunks.{with}
-use Rattle.frame_input.specs.ChunkLaws.{from_end, from-ended, from-open}
-use Rattle.frame_input.specs.CollectLaws.{collected_within}
+use Rattle.frame_input.proofs.ChunkLaws.{from_end, from_ended, from_open}
+use Rattle.frame_input.proofs.CollectLaws.{collected_within}
 use Rattle.frame_lines.specs.Frame.{frame_of}
 use Rattle.frame_tape.specs.Tape.{most_waiting}
 use Rattle.frame_replies.specs.Reply.{bytes_of}
@@ -30,14 +30,14 @@ module _ (chunk : List ℕ) where
       (e : left r line ≡ collecting chunk s.next s.line s.have) where
     pub outcome_open : r.ended ≡ false → chunk_outcome chunk s ≡ chunk_outcome chunk (standing r.next line r.have s.kept)
     unfolding chunk_outcome
-    outcome_open h = rw (from-open chunk s.next s.line s.have more r line e h)
+    outcome_open h = rw (from_open chunk s.next s.line s.have more r line e h)
 
     pub outcome_ended : r.ended ≡ true
         → chunk_outcome chunk s
         ≡ with_answers (bytes_of (answer_to (frame_of (take r.have line)) (take r.have line) s.kept).replies)
         (chunk_outcome chunk (standing r.next line 0 (kept_by (take r.have line) s.kept)))
     unfolding chunk_outcome with_answers with answers_to kept_after
-    outcome_ended h = rw (from-ended chunk s.next s.line s.have more r line e h)
+    outcome_ended h = rw (from_ended chunk s.next s.line s.have more r line e h)
 
 -- ---- lines answered
 

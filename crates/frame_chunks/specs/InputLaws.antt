@@ -9,9 +9,9 @@ use Rattle.frame_lines.specs.Frame.{frame_of}
 use Rattle.frame_lines.specs.CutLaws.{cut_same}
 use Rattle.frame_input.specs.Lines.{lines_of}
 use Rattle.frame_input.specs.Chunks.{joined, with, gone_from, lines_over}
-use Rattle.frame_input.specs.CollectLaws.{collect_lf}
-use Rattle.frame_input.specs.ChunkLaws.{from_end, from-ended}
-use Rattle.frame_input.specs.LineLaws.{over_chunks}
+use Rattle.frame_input.proofs.CollectLaws.{collect_lf}
+use Rattle.frame_input.proofs.ChunkLaws.{from_end, from_ended}
+use Rattle.frame_input.proofs.LineLaws.{over_chunks}
 use Rattle.frame_replies.specs.Reply.{bytes_of}
 use Rattle.frame_answers.specs.Step.{Kept, Answered, answer_to, kept_by, answers_to, kept_after}
 use Rattle.frame_chunks.specs.Chunk.{chunk_outcome, with_answers}
@@ -61,7 +61,7 @@ record Says (chunks : List (List ℕ)) (line : List ℕ) (have : ℕ) (k : Kept)
 lf_ends : (line : List ℕ) (have : ℕ) → gone_from (10 ∷ []) 0 line have ≡ record { lines = take have line ∷ []; line = line; have = 0 }
 unfolding with
 lf_ends line have =
-    from-ended (10 ∷ []) 0 line have (omega arith) (record { next = 1; have = have; ended = _ }) line
+    from_ended (10 ∷ []) 0 line have (omega arith) (record { next = 1; have = have; ended = _ }) line
     (sym (collect_lf (10 ∷ []) 0 line have (omega arith) refl)) refl
     ∙ rw (from_end (10 ∷ []) 1 line 0 (omega arith))
 

@@ -5,11 +5,11 @@ use Rattle.base.specs.Lists.{Every}
 use Rattle.base.specs.ListLaws.{every_append}
 use Rattle.base.specs.CaseLaws.{by_lt}
 use Rattle.frame_input.specs.Lines.{lines_of, has_lf}
-use Rattle.frame_input.specs.CollectLaws.{has_other}
-use Rattle.frame_input.specs.LineLaws.{lines_ended}
+use Rattle.frame_input.proofs.CollectLaws.{has_other}
+use Rattle.frame_input.proofs.LineLaws.{lines_ended}
 use Rattle.frame_replies.specs.Reply.{hex_digit, digits, entry_digits, header, Reply, brief, entries, placed, sheet, leaf, encode, line_of, bytes_of}
 use Rattle.frame_replies.specs.ReadBack.{reply_of, Writable}
-use Rattle.frame_replies.specs.ReadBackLaws.{reply_back}
+use Rattle.frame_replies.proofs.ReadBackLaws.{reply_back}
 use Rattle.frame_lines.specs.declared.Frame.{Frame}
 use Rattle.frame_answers.specs.Step.{Kept, answer_to}
 use Rattle.frame_answers.specs.Fits.{StoreFits}

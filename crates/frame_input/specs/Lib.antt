@@ -1,7 +1,4 @@
 -- The lines of an input that comes in chunks: the definitions, their laws, and written inputs.
 pub mod Lines
 pub mod Chunks
-pub mod CollectLaws
-pub mod ChunkLaws
-pub mod LineLaws
 pub mod Examples

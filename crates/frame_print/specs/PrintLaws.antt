@@ -7,11 +7,11 @@ use Rattle.std.proofs.Math.ListN.{length, get_or}
 use Rattle.base.specs.CaseLaws.{if_eq_yes, if_eq_no}
 use Rattle.tree_sizes.specs.Sizes as sizes
 use Rattle.tree_sizes.specs.Sizes.{height, leaf_slots}
-use Rattle.tree_sizes.specs.SizeLaws.{height_most}
+use Rattle.tree_sizes.proofs.SizeLaws.{height_most}
 use Rattle.store_order.specs.CountOrder.{number_order}
 use Rattle.store_layout.specs.Layout.{Store}
 use Rattle.store_layout.specs.Decode.{Contents, numbered}
-use Rattle.store_layout.specs.SheetLaws.{decode_sound, size_known}
+use Rattle.store_layout.proofs.SheetLaws.{decode_sound, size_known}
 use Rattle.call_outcomes.specs.declared.Returned.{Returned}
 use Rattle.call_outcomes.specs.declared.Answer.{Answer}
 use Rattle.call_outcomes.specs.Returns.{returned}
@@ -21,9 +21,9 @@ use Rattle.call_outcomes.specs.AnswerLaws.{number_accepted}
 use Rattle.call_outcomes.specs.PlainCalls.{count_of, check}
 use Rattle.call_outcomes.specs.Untallied.{RightLengths, untallied, store_of}
 use Rattle.call_outcomes.specs.Plain.{plain, PlainStore, plain_store_of, plain_outcome_of}
-use Rattle.call_outcomes.specs.AcceptedLaws.{question_lengths, question_decoded}
+use Rattle.call_outcomes.proofs.AcceptedLaws.{question_lengths, question_decoded}
 use Rattle.call_outcomes.specs.Clubs.{clubs}
-use Rattle.call_outcomes.specs.ClubsLaws.{clubs_roomy}
+use Rattle.call_outcomes.proofs.ClubsLaws.{clubs_roomy}
 use Rattle.frame_replies.specs.Reply.{leaf, sheet, brief, line_of, bytes_of}
 use Rattle.frame_replies.specs.DigitLaws.{length_leaf}
 use Rattle.frame_replies.specs.Wrote.{Wrote}

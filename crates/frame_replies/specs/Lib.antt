@@ -3,7 +3,5 @@ pub mod Reply
 pub mod Wrote
 pub mod WroteLaws
 pub mod DigitLaws
-pub mod FieldLaws
 pub mod ReadBack
-pub mod ReadBackLaws
 pub mod Examples

@@ -17,13 +17,13 @@ use Rattle.call_outcomes.specs.Returns.{returned}
 use Rattle.call_outcomes.specs.Kind.{Kind, StoreFor}
 use Rattle.call_outcomes.specs.PlainCalls.{Call}
 use Rattle.call_outcomes.specs.Plain.{plain, PlainStore, PlainLengths, plain_store_of}
-use Rattle.call_outcomes.specs.PlainLaws.{plain_right}
+use Rattle.call_outcomes.proofs.PlainLaws.{plain_right}
 use Rattle.call_outcomes.specs.Clubs.{clubs, zeros}
-use Rattle.call_outcomes.specs.ClubsLaws.{clubs_lawful}
+use Rattle.call_outcomes.proofs.ClubsLaws.{clubs_lawful}
 use Rattle.call_history.specs.History.{history, list_at_end, Sent, SentTo, clearing, store_after, last_store, NoneEnds, faces_sent, calls_of}
-use Rattle.call_history.specs.Supply.{clear_leaves}
-use Rattle.call_history.specs.Shares.{last_sheet}
-use Rattle.call_history.specs.Clause.{words}
+use Rattle.call_history.proofs.Supply.{clear_leaves}
+use Rattle.call_history.proofs.Shares.{last_sheet}
+use Rattle.call_history.proofs.Clause.{words}
 use Rattle.call_history.specs.ClubSheets.{ClubSheet}
 use Rattle.frame_lines.specs.declared.Frame.{Frame}
 use Rattle.frame_lines.specs.declared.Frame.TheVariants.{Insert, Delete, Read, Tape, Print, Clear, Place, NoFrame}

@@ -18,7 +18,7 @@ use Rattle.tree_counts.specs.Counts.{shape_counts}
 use Rattle.tree_canonical.specs.ShapeShare.{shape_product}
 use Rattle.store_order.specs.Occurs.{occurs}
 use Rattle.store_order.specs.TreeOrder.{tree_order}
-use Rattle.store_order.specs.TreeOrderLaws.{order_permutes}
+use Rattle.store_order.proofs.TreeOrderLaws.{order_permutes}
 use Rattle.store_order.specs.CountOrder.{number_order}
 use Rattle.store_order.specs.Copied.{up}
 use Rattle.store_layout.specs.Layout.{Store, lay_out}
@@ -32,23 +32,23 @@ use Rattle.call_outcomes.specs.PlainCalls.{Call, insert_at, delete_at, edit_of, 
 use Rattle.call_outcomes.specs.PlainCallLaws.{plain_itself}
 use Rattle.call_outcomes.specs.Untallied.{IsList, untallied}
 use Rattle.call_outcomes.specs.Plain.{plain_view, plain, PlainStore, PlainLengths, lay_plain, equal_plain}
-use Rattle.call_outcomes.specs.PlainLaws.{plain_right}
+use Rattle.call_outcomes.proofs.PlainLaws.{plain_right}
 use Rattle.call_outcomes.specs.Clubs.{clubs, zeros}
-use Rattle.call_outcomes.specs.ClubsLaws.{clubs_roomy, clubs_ready, clubs_lawful}
+use Rattle.call_outcomes.proofs.ClubsLaws.{clubs_roomy, clubs_ready, clubs_lawful}
 use Rattle.call_outcomes.specs.LongerTapeLaws as longer
 use Rattle.call_orders.specs.Conversion.{to_tree, to_number, Convertible, conversion, to_tree_order}
-use Rattle.call_orders.specs.ConversionLaws as conversions
+use Rattle.call_orders.proofs.ConversionLaws as conversions
 use Rattle.call_orders.specs.NumberOrder.{lay_numbered, in_number_order}
 use Rattle.call_orders.specs.Converts.{converted}
-use Rattle.call_orders.specs.OrderLaws as orders
+use Rattle.call_orders.proofs.OrderLaws as orders
 use Rattle.call_history.specs.History.{history, final_list, list_at_end, SameTable, Sent, clearing, last_store, NoneEnds, faces_sent, calls_of}
-use Rattle.call_history.specs.Shares as shares
+use Rattle.call_history.proofs.Shares as shares
 use Rattle.call_history.specs.Refusals as refusals
 use Rattle.call_history.specs.TapeRuns.{tape_runs, tapes_decide, CallsAmong, calls_runs}
-use Rattle.call_history.specs.TapeRunsLaws as tapes
-use Rattle.call_history.specs.Supply.{program_draws, history_supplied}
-use Rattle.call_history.specs.PlainSupply.{plain_suppliable}
-use Rattle.call_history.specs.Clause as clause
+use Rattle.call_history.proofs.TapeRunsLaws as tapes
+use Rattle.call_history.proofs.Supply.{program_draws, history_supplied}
+use Rattle.call_history.proofs.PlainSupply.{plain_suppliable}
+use Rattle.call_history.proofs.Clause as clause
 use Rattle.call_history.specs.ClubSheets as sheets
 use Rattle.call_history.specs.ClubSheets.{ClubSheet}
 use Rattle.store_layout.specs.EntryLaws as entries
@@ -70,16 +70,16 @@ use Rattle.store_keys.specs.Key.{key, Rises, rank_of, present}
 use Rattle.store_keys.specs.KeyLaws as keys
 use Rattle.call_timed.specs.Timed as timed_calls_lem
 use Rattle.call_timed.specs.Timed.{TimedStore, lay_timed, TimedLengths, equal_timed, timed_view, insert_entry, delete_rank, plainly, as_plain, found_at, timed, TimedCall}
-use Rattle.call_timed.specs.TimedLaws.{timed_right, timed_as_plain}
+use Rattle.call_timed.proofs.TimedLaws.{timed_right, timed_as_plain}
 use Rattle.call_corrections.specs.Accepted.{AllAccepted}
-use Rattle.call_corrections.specs.Corrections as corrections
-use Rattle.call_corrections.specs.TimedCorrections as timed-corrections
+use Rattle.call_corrections.proofs.Corrections as corrections
+use Rattle.call_corrections.proofs.TimedCorrections as timed-corrections
 use Rattle.call_readings.specs.Reading.{rank_count, plain_reading, timed_reading, plain_board, timed_board}
-use Rattle.call_readings.specs.ReadingLaws as readings
-use Rattle.call_readings.specs.BoardLaws as boards
+use Rattle.call_readings.proofs.ReadingLaws as readings
+use Rattle.call_readings.proofs.BoardLaws as boards
 use Rattle.call_mend.specs.Mending.{size_of, Mendable, mended}
 use Rattle.call_mend.specs.Views.{plain_store, timed_store}
-use Rattle.call_mend.specs.MendingLaws as mending
+use Rattle.call_mend.proofs.MendingLaws as mending
 use Rattle.timed_history.specs.Clause as timed-clause
 use Rattle.timed_history.specs.Clause.{clubs_timed}
 use Rattle.timed_history.specs.TimedSupply.{timed_suppliable}

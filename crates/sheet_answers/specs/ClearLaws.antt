@@ -10,7 +10,7 @@ use Rattle.call_outcomes.specs.Kind.{empty, clear}
 use Rattle.call_outcomes.specs.Outcome.{outcome}
 use Rattle.call_outcomes.specs.DecisionLaws.{clear_outcome}
 use Rattle.call_outcomes.specs.Plain.{plain_view, plain, PlainStore, PlainLengths, lay_plain, plain_store_of, plain_outcome_of}
-use Rattle.call_outcomes.specs.PlainLaws.{right_plain}
+use Rattle.call_outcomes.proofs.PlainLaws.{right_plain}
 
 -- Slots that are zeroed from the first to the last.
 pub zeroed : (xs : List ℕ) {xs' : List ℕ} (room : ℕ) → length xs ≡ room → xs' ≡ take 0 xs ++ replicate (room - 0) 0 ++ drop room xs → xs' ≡ replicate room 0

@@ -16,7 +16,7 @@ use Rattle.call_outcomes.specs.Outcome.{outcome}
 use Rattle.call_outcomes.specs.PlainCalls.{Question, written_for}
 use Rattle.call_outcomes.specs.PlainCallLaws.{plain_itself}
 use Rattle.call_outcomes.specs.Untallied.{untallied_view}
-use Rattle.call_outcomes.specs.SliceLaws.{slice_holds}
+use Rattle.call_outcomes.proofs.SliceLaws.{slice_holds}
 use Rattle.call_outcomes.specs.Plain.{tally_slice, plain_view, plain, PlainStore, plain_store_of, plain_outcome_of}
 use Rattle.call_open.specs.declared.Opened.{Opened}
 use Rattle.call_open.specs.Opening.{plain_numbers, Opening, OpenedStore}

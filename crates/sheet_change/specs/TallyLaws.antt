@@ -18,13 +18,13 @@ use Rattle.tree_walk.specs.declared.Updated.{Updated}
 use Rattle.tree_walk.specs.declared.Updated.TheVariants as updated
 use Rattle.tree_walk.specs.Updated.{UpdatedAs}
 use Rattle.store_order.specs.CountOrder.{count_order, number_order}
-use Rattle.store_order.specs.CountOrderLaws.{count_number}
+use Rattle.store_order.proofs.CountOrderLaws.{count_number}
 use Rattle.store_layout.specs.declared.Capacity.{Capacity}
 use Rattle.store_layout.specs.Room.{CapacityReady}
 use Rattle.store_layout.specs.Layout.{Store, lay_slots, lay_counts, lay_out}
 use Rattle.store_layout.specs.Decode.{Contents, numbered}
 use Rattle.store_layout.specs.Sheet.{IsContents}
-use Rattle.store_layout.specs.SheetLaws.{size_lay_out, length_slots, length_counts, numbered_lay_out}
+use Rattle.store_layout.proofs.SheetLaws.{size_lay_out, length_slots, length_counts, numbered_lay_out}
 use Rattle.store_scoring.specs.Scoring.{retired_bit, tally, none_retired}
 use Rattle.store_tallies.specs.Tallies.{range_tallies, lay_tallies}
 use Rattle.store_tallies.specs.TalliesIn.{TalliesIn}
@@ -39,8 +39,8 @@ use Rattle.call_outcomes.specs.DecisionLaws.{accepted, accepted_by}
 use Rattle.call_outcomes.specs.PlainCalls.{plain_change, change_cause, edit_of, plain_calls, changing}
 use Rattle.call_outcomes.specs.PlainCallLaws.{edit_list}
 use Rattle.call_outcomes.specs.Untallied.{untallied_view, untallied, store_of, outcome_of}
-use Rattle.call_outcomes.specs.UntalliedLaws.{contents_of_lem, untallied_lawful}
-use Rattle.call_outcomes.specs.SliceLaws.{SliceHolds, slice_holds, SliceChanged, slice_changed, slice_ended}
+use Rattle.call_outcomes.proofs.UntalliedLaws.{contents_of_lem, untallied_lawful}
+use Rattle.call_outcomes.proofs.SliceLaws.{SliceHolds, slice_holds, SliceChanged, slice_changed, slice_ended}
 use Rattle.call_outcomes.specs.Plain.{tally_slice, plain_view, plain, PlainStore, plain_store_of, plain_outcome_of}
 use Rattle.call_change.specs.declared.DrawnChange.{DrawnChange}
 use Rattle.call_change.specs.SheetChange.{ChangeReady, written}
@@ -112,8 +112,8 @@ module _ {cap : Capacity} (ready : CapacityReady cap) {change : Change} {e n m :
       list' = applied (edit_of (plain_change change e)) c.list
 
       -- By range number, the tallies before the change are those that the slots gave.
-      before-in : part.range ≢ 1 → TalliesIn m' slots (number_order (height m') tallies)
-      before-in other =
+      before_in : part.range ≢ 1 → TalliesIn m' slots (number_order (height m') tallies)
+      before_in other =
           let size : m' ≡ c.shape.size = changed.size_kept ready sheet_ready tape answer work' w m' part next done other ∙ sym p.admitted.size in
           let words : number_order (height c.shape.size) tallies ≡ range_tallies cap.counts c.list c.shape
           = ap (number_order (height c.shape.size)) held.laid ∙ numbered_tallies cap ready.roomy c.list c.shape contents in
@@ -140,19 +140,19 @@ module _ {cap : Capacity} (ready : CapacityReady cap) {change : Change} {e n m :
         size' =
             sym (size_lay_out cap list' shape' contents' ready.roomy)
             ∙ ap (λ (t : Store). get_or t.counts 0 0) (sym left.made.laid)
-            ∙ changed.size-written ready sheet_ready tape answer work' w m' part next done Store-is
+            ∙ changed.size_written ready sheet_ready tape answer work' w m' part next done Store-is
 
-        slots-are' : slots' ≡ lay_slots cap.slots list' shape'
+        slots_are' : slots' ≡ lay_slots cap.slots list' shape'
         unfolding lay_out
-        slots-are' = ap (λ (t : Store). t.slots) left.made.laid
+        slots_are' = ap (λ (t : Store). t.slots) left.made.laid
 
-        counts-are' : counts' ≡ lay_counts cap.counts (length list') shape'
+        counts_are' : counts' ≡ lay_counts cap.counts (length list') shape'
         unfolding lay_out
-        counts-are' = ap (λ (t : Store). t.counts) left.made.laid
+        counts_are' = ap (λ (t : Store). t.counts) left.made.laid
 
-        slots-number : length slots' ≡ cap.slots
+        slots_number : length slots' ≡ cap.slots
         unfolding lay_out
-        slots-number = ap length slots-are' ∙ length_slots cap list' shape' contents' ready.roomy
+        slots_number = ap length slots_are' ∙ length_slots cap list' shape' contents' ready.roomy
 
         -- ---- the tallies are written
 
@@ -161,14 +161,14 @@ module _ {cap : Capacity} (ready : CapacityReady cap) {change : Change} {e n m :
         laid = ap (λ (t : Store). t.slots) Store-is
 
         -- What writing them asks, where `numbers` are those before the change by range number: the size parameter is kept but for a change of the whole sheet.
-        pub tallies-after : {numbers : List ℕ} → numbers ≡ number_order (height m) tallies → TalliesAfter d slots' tallies work' numbers
-        tallies-after {numbers} before = record {
+        pub tallies_after : {numbers : List ℕ} → numbers ≡ number_order (height m) tallies → TalliesAfter d slots' tallies work' numbers
+        tallies_after {numbers} before = record {
           ready = record {
             most = omega (arith, size', contents'.room, contents'.shape.allowed.most, ready.few);
-            slots_room = rw (← size', slots-number) (ready.roomy.slots_fit _ _ contents'.room contents'.shape.allowed);
+            slots_room = rw (← size', slots_number) (ready.roomy.slots_fit _ _ contents'.room contents'.shape.allowed);
             ranges_room = rw (← size', tallies_number) (ready.roomy.counts_fit _ _ contents'.room contents'.shape.allowed);
           };
-          part = let inside = changed.part-inside ready sheet_ready tape answer work' w m' part next done in
+          part = let inside = changed.part_inside ready sheet_ready tape answer work' w m' part next done in
               let numbers-are : part.range ≢ 1 → numbers ≡ number_order (height m') tallies
               = λ other. before ∙ rw (changed.size_kept ready sheet_ready tape answer work' w m' part next done other) in
               record {
@@ -178,12 +178,12 @@ module _ {cap : Capacity} (ready : CapacityReady cap) {change : Change} {e n m :
                     (sym (count_number (height m') tallies (rw (← size', tallies_number) (ready.roomy.counts_fit _ _ contents'.room contents'.shape.allowed))));
                 kept = λ other.
                     rw (numbers-are other)
-                    (kept_numbers inside tally 0 (changed.kept-before ready sheet_ready tape answer work' w m' part next done other laid)
-                    (changed.kept-behind ready sheet_ready tape answer work' w m' part next done other laid) (before-in other));
+                    (kept_numbers inside tally 0 (changed.kept_before ready sheet_ready tape answer work' w m' part next done other laid)
+                    (changed.kept_behind ready sheet_ready tape answer work' w m' part next done other laid) (before_in other));
               };
           counted =
-              counts_ready cap ready.roomy list' shape' contents' size' slots-are'
-              (changed.work-numbered ready sheet_ready tape answer work' w m' part next done Store-is
+              counts_ready cap ready.roomy list' shape' contents' size' slots_are'
+              (changed.work_numbered ready sheet_ready tape answer work' w m' part next done Store-is
               ∙ ap numbered left.made.laid
               ∙ numbered_lay_out cap list' shape' contents' ready.roomy);
         }
@@ -192,13 +192,13 @@ module _ {cap : Capacity} (ready : CapacityReady cap) {change : Change} {e n m :
         counts_number = ap (λ (t : Store). length t.counts) left.made.laid ∙ length_counts cap list' shape' contents'
 
         -- Outside of the part it is what it was.
-        pub part-made : PartMade m m' part slots slots' counts'
-        part-made = record {
-          size = changed.size-written ready sheet_ready tape answer work' w m' part next done Store-is;
-          inside = changed.part-inside ready sheet_ready tape answer work' w m' part next done;
+        pub part_made : PartMade m m' part slots slots' counts'
+        part_made = record {
+          size = changed.size_written ready sheet_ready tape answer work' w m' part next done Store-is;
+          inside = changed.part_inside ready sheet_ready tape answer work' w m' part next done;
           size_kept = changed.size_kept ready sheet_ready tape answer work' w m' part next done;
-          before = λ other. changed.kept-before ready sheet_ready tape answer work' w m' part next done other laid;
-          behind = λ other. changed.kept-behind ready sheet_ready tape answer work' w m' part next done other laid;
+          before = λ other. changed.kept_before ready sheet_ready tape answer work' w m' part next done other laid;
+          behind = λ other. changed.kept_behind ready sheet_ready tape answer work' w m' part next done other laid;
         }
 
         -- ---- with these tallies the change is that of the plain sheet
@@ -206,25 +206,25 @@ module _ {cap : Capacity} (ready : CapacityReady cap) {change : Change} {e n m :
         by_slots : {tallies' : List ℕ} → ((words : List ℕ) → TalliesIn m' slots' words → length words ≡ length tallies → tallies' ≡ count_order (height m') words)
             → tallies' ≡ lay_tallies cap.counts list' shape'
         by_slots is-tallies =
-            slots_written cap ready.roomy list' shape' contents' size' slots-are' (λ words found size. is-tallies words found (size ∙ sym tallies_number))
+            slots_written cap ready.roomy list' shape' contents' size' slots_are' (λ words found size. is-tallies words found (size ∙ sym tallies_number))
 
-        pub plain-made-by-slots : (after : ℕ) → after ≡ count_after change n → {tallies' : List ℕ}
+        pub plain_made_by_slots : (after : ℕ) → after ≡ count_after change n → {tallies' : List ℕ}
             → ((words : List ℕ) → TalliesIn m' slots' words → length words ≡ length tallies → tallies' ≡ count_order (height m') words)
             → plain_outcome_of (Changed after next) slots' counts' tallies' [] ≡ outcome (plain cap) (changing change e) tape store []
-        plain-made-by-slots after number is-tallies = rw number (left.sliced-outcome _ (by_slots is-tallies))
+        plain_made_by_slots after number is-tallies = rw number (left.sliced_outcome _ (by_slots is-tallies))
 
         -- no boat was retired, and none comes in
-        pub plain-made-by-counts : (eqb (get_or tallies 1 0) n && not (retired_bit e)) ≡ true → (after : ℕ) → after ≡ count_after change n → {tallies' : List ℕ}
+        pub plain_made_by_counts : (eqb (get_or tallies 1 0) n && not (retired_bit e)) ≡ true → (after : ℕ) → after ≡ count_after change n → {tallies' : List ℕ}
             → tallies' ≡ 0 ∷ drop 1 counts' → plain_outcome_of (Changed after next) slots' counts' tallies' [] ≡ outcome (plain cap) (changing change e) tape store []
-        plain-made-by-counts scoring after number is-tallies =
+        plain_made_by_counts scoring after number is-tallies =
             let both = and_both (eqb (get_or tallies 1 0) n) (not (retired_bit e)) scoring in
             let all : get_or (lay_tallies cap.counts c.list c.shape) 1 0 ≡ length c.list
             = ap (λ (xs : List ℕ). get_or xs 1 0) (sym held.laid) ∙ eqb-true _ _ both.0 ∙ sym p.admitted.count in
             let none : none_retired list' ≡ true
             = ap none_retired (edit_list change e c.list)
             ∙ none_changed change e c.list (none_known cap ready.roomy c.list c.shape contents all) (not-true (retired_bit e) both.1) in
-            rw number (left.sliced-outcome _ (none_written cap ready.roomy list' shape' contents' none counts-are' is-tallies))
+            rw number (left.sliced_outcome _ (none_written cap ready.roomy list' shape' contents' none counts_are' is-tallies))
 
         -- The sheet that is left.
-        pub left-sheet : LeftSheet cap m' slots' counts' tallies
-        left-sheet = record { list = list'; shape = shape'; contents = contents'; laid = left.made.laid; tallied = by_slots }
+        pub left_sheet : LeftSheet cap m' slots' counts' tallies
+        left_sheet = record { list = list'; shape = shape'; contents = contents'; laid = left.made.laid; tallied = by_slots }

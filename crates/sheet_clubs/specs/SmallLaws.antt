@@ -7,11 +7,11 @@ use Rattle.tree_sizes.specs.Sizes.{height}
 use Rattle.tree_rules.specs.declared.Change.{Change}
 use Rattle.tree_rules.specs.Tree.{Shape}
 use Rattle.tree_counts.specs.Counts.{shape_counts}
-use Rattle.store_order.specs.CountOrderLaws.{every_count_order}
+use Rattle.store_order.proofs.CountOrderLaws.{every_count_order}
 use Rattle.store_layout.specs.Layout.{lay_counts, lay_out}
 use Rattle.store_layout.specs.Decode.{Contents}
 use Rattle.store_layout.specs.Sheet.{IsContents}
-use Rattle.store_layout.specs.SheetLaws.{length_slots, length_counts}
+use Rattle.store_layout.proofs.SheetLaws.{length_slots, length_counts}
 use Rattle.store_sums.specs.SumLaws.{length_additive}
 use Rattle.store_sums.specs.SmallLaws.{numbers_small}
 use Rattle.store_sums.specs.LaidLaws.{counts_laid}
@@ -25,10 +25,10 @@ use Rattle.call_outcomes.specs.DecisionLaws.{accepted, store_accepted}
 use Rattle.call_outcomes.specs.Outcome.{outcome}
 use Rattle.call_outcomes.specs.ChangeLaws.{change_made}
 use Rattle.call_outcomes.specs.PlainCalls.{plain_change, changing}
-use Rattle.call_outcomes.specs.UntalliedLaws.{contents_of_lem}
+use Rattle.call_outcomes.proofs.UntalliedLaws.{contents_of_lem}
 use Rattle.call_outcomes.specs.Plain.{plain_view, plain, PlainStore, lay_plain, plain_store_of, plain_outcome_of}
 use Rattle.call_outcomes.specs.Clubs.{clubs}
-use Rattle.call_outcomes.specs.ClubsLaws.{clubs_roomy, clubs_lawful}
+use Rattle.call_outcomes.proofs.ClubsLaws.{clubs_roomy, clubs_lawful}
 
 -- The store has 256 counts and 256 tallies, of 16 bits.
 pub record Small (store : PlainStore) : Type 0 where

@@ -8,10 +8,10 @@ use Rattle.base.specs.Lists.{equal_lists}
 use Rattle.base.specs.ListLaws.{equal_sound}
 use Rattle.tree_sizes.specs.Sizes.{height, slots}
 use Rattle.store_order.specs.CountOrder.{count_order, number_order}
-use Rattle.store_order.specs.CountOrderLaws.{length_count_order, count_number, number_count}
+use Rattle.store_order.proofs.CountOrderLaws.{length_count_order, count_number, number_count}
 use Rattle.store_layout.specs.Leaf.{nonzero}
 use Rattle.store_layout.specs.Decode.{Contents, decode, numbered}
-use Rattle.store_layout.specs.SheetLaws.{size_known}
+use Rattle.store_layout.proofs.SheetLaws.{size_known}
 use Rattle.store_layout.specs.declared.Capacity.{Capacity}
 use Rattle.store_layout.specs.Room.{CapacityReady}
 use Rattle.store_scoring.specs.Scoring.{none_retired}

@@ -6,7 +6,7 @@ use Rattle.store_order.specs.CountOrder.{count_order, number_order}
 use Rattle.call_outcomes.specs.declared.Answer.TheVariants.{Converted}
 use Rattle.call_outcomes.specs.Clubs.{clubs}
 use Rattle.call_orders.specs.Conversion.{to_tree, to_number, Convertible, Conversion, conversion}
-use Rattle.call_orders.specs.ConversionLaws.{conversion_done}
+use Rattle.call_orders.proofs.ConversionLaws.{conversion_done}
 
 module _ {counts new : List ℕ} (c : Convertible clubs counts) where
   -- Written in the tree order.

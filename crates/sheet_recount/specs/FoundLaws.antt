@@ -8,7 +8,7 @@ use Rattle.store_layout.specs.declared.Capacity.{Capacity}
 use Rattle.store_layout.specs.Room.{CapacityReady}
 use Rattle.store_layout.specs.Leaf.{nonzero}
 use Rattle.store_layout.specs.Decode.{Contents}
-use Rattle.store_layout.specs.SheetLaws.{size_known}
+use Rattle.store_layout.proofs.SheetLaws.{size_known}
 use Rattle.store_scoring.specs.Scoring.{none_retired}
 use Rattle.store_tallies.specs.Tallies.{lay_tallies}
 use Rattle.store_tallies.specs.TalliesIn.{TalliesIn}

@@ -6,19 +6,19 @@ use Rattle.tree_rules.specs.Tree.{Shape, IsShape}
 use Rattle.store_layout.specs.declared.Capacity.{Capacity}
 use Rattle.store_layout.specs.Room.{CapacityReady}
 use Rattle.store_layout.specs.Layout.{lay_out}
-use Rattle.store_layout.specs.SheetLaws.{size_lay_out}
+use Rattle.store_layout.proofs.SheetLaws.{size_lay_out}
 use Rattle.call_outcomes.specs.declared.Cause.TheVariants.{Lengths, NotMendable}
 use Rattle.call_outcomes.specs.declared.Answer.TheVariants.{Mended, Refused}
 use Rattle.call_outcomes.specs.Outcome.{refused}
 use Rattle.call_outcomes.specs.Untallied.{IsList, store_of}
-use Rattle.call_outcomes.specs.UntalliedLaws.{contents_of_lem}
+use Rattle.call_outcomes.proofs.UntalliedLaws.{contents_of_lem}
 use Rattle.call_outcomes.specs.Plain.{plain_view, PlainStore, lay_plain, plain_store_of, plain_outcome_of}
-use Rattle.call_outcomes.specs.PlainLaws.{plain_lawful}
+use Rattle.call_outcomes.proofs.PlainLaws.{plain_lawful}
 use Rattle.call_open.specs.Opening.{OpenedSheet}
 use Rattle.call_open.specs.OpenedLaws as opened
 use Rattle.call_mend.specs.Mending.{SameKept, Mendable, mended}
 use Rattle.call_mend.specs.Views.{plain_store}
-use Rattle.call_mend.specs.MendingLaws.{mended_lengths, mended-none, mended_made}
+use Rattle.call_mend.proofs.MendingLaws.{mended_lengths, mended_none, mended_made}
 use Rattle.sheet_recount.specs.Recount.{NoSheet, TalliesOf}
 
 -- ---- the sheet that was found
@@ -62,7 +62,7 @@ module _ {cap : Capacity} (ready : CapacityReady cap) (slots counts tallies : Li
     unfolding refused
     mend_none none =
         sym
-        (mended-none ready.roomy (plain_view cap) (plain_store cap) (plain_lawful cap ready.roomy).view store right
+        (mended_none ready.roomy (plain_view cap) (plain_store cap) (plain_lawful cap ready.roomy).view store right
         (λ m. no_kept ready slots counts none m.list m.shape m.is_list m.is_shape m.same))
 
     module _ {fresh work : List ℕ} {n m : ℕ} (w : OpenedSheet cap (store_of slots fresh) n m work) (kept : m ≡ get_or counts 0 0) where
@@ -77,8 +77,8 @@ module _ {cap : Capacity} (ready : CapacityReady cap) (slots counts tallies : Li
             same = same_kept_lem ready w counts kept;
           }
 
-      pub mend-made : {counts' tallies' : List ℕ} → counts' ≡ fresh → TalliesOf cap slots fresh tallies'
+      pub mend_made : {counts' tallies' : List ℕ} → counts' ≡ fresh → TalliesOf cap slots fresh tallies'
           → plain_outcome_of (Mended n) slots counts' tallies' [] ≡ mended (plain_view cap) (plain_store cap) store
-      mend-made counts_are put =
+      mend_made counts_are put =
           let made = mended_made ready.roomy (plain_view cap) (plain_store cap) (plain_lawful cap ready.roomy).view store right found_mendable in
           ap (λ (t : PlainStore). record { answer = Mended n; store = t; output = [] }) (put_laid ready w counts_are put) ∙ sym (rw w.count at made)

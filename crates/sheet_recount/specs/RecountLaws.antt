@@ -10,13 +10,13 @@ use Rattle.tree_rules.specs.Tree.{Shape}
 use Rattle.tree_counts.specs.Counts.{shape_counts}
 use Rattle.tree_counts.specs.ShapeCountLaws.{length_shape_counts}
 use Rattle.store_order.specs.CountOrder.{count_order}
-use Rattle.store_order.specs.CountOrderLaws.{length_count_order, count_order_size}
+use Rattle.store_order.proofs.CountOrderLaws.{length_count_order, count_order_size}
 use Rattle.store_layout.specs.declared.Capacity.{Capacity}
 use Rattle.store_layout.specs.Room.{CapacityReady}
 use Rattle.store_layout.specs.Layout.{lay_slots, lay_counts, lay_out}
 use Rattle.store_layout.specs.Sheet.{IsContents}
 use Rattle.store_layout.specs.Decode.{numbered}
-use Rattle.store_layout.specs.SheetLaws.{size_known}
+use Rattle.store_layout.proofs.SheetLaws.{size_known}
 use Rattle.store_layout.specs.RoomLaws.{counts_enough, slots_enough}
 use Rattle.store_sums.specs.Numbers.{NumbersIn}
 use Rattle.store_sums.specs.LaidLaws.{counts_laid, numbers_only}
@@ -24,7 +24,7 @@ use Rattle.call_outcomes.specs.declared.Cause.{Cause}
 use Rattle.call_outcomes.specs.declared.Cause.TheVariants.{NotMendable}
 use Rattle.call_outcomes.specs.DecisionLaws.{store_decided}
 use Rattle.call_outcomes.specs.Untallied.{IsList, untallied_view, store_of}
-use Rattle.call_outcomes.specs.UntalliedLaws.{untallied_lawful}
+use Rattle.call_outcomes.proofs.UntalliedLaws.{untallied_lawful}
 use Rattle.call_open.specs.declared.Opened.{Opened}
 use Rattle.call_open.specs.declared.Opened.TheVariants as opened
 use Rattle.call_open.specs.Opening.{opened_as, Opening}
@@ -47,24 +47,24 @@ module _ {cap : Capacity} (ready : CapacityReady cap) (sl : List ℕ) (m : ℕ) 
 
   module _ (work : List ℕ) (numbers : NumbersIn length m m sl work) (room : length work ≡ cap.counts) where
     module _ (fresh : List ℕ) (is : fresh ≡ count_order (height m) work) where
-      pub fresh-length : length fresh ≡ cap.counts
-      fresh-length = rw is (length_count_order (height m) work) ∙ room
+      pub fresh_length : length fresh ≡ cap.counts
+      fresh_length = rw is (length_count_order (height m) work) ∙ room
 
       fresh_size : get_or fresh 0 0 ≡ m
       fresh_size = rw is (count_order_size (height m) work) ∙ numbers.zero
 
       -- A sheet with these slots and this size parameter is laid out by these counts.
-      sheet-counted : (list : List ℕ) (s : Shape) → IsContents cap list s → lay_slots cap.slots list s ≡ sl → s.size ≡ m → store_of sl fresh ≡ lay_out cap list s
+      sheet_counted : (list : List ℕ) (s : Shape) → IsContents cap list s → lay_slots cap.slots list s ≡ sl → s.size ≡ m → store_of sl fresh ≡ lay_out cap list s
       unfolding lay_out lay_counts
-      sheet-counted list s w laid size =
+      sheet_counted list s w laid size =
           let known : work ≡ shape_counts cap.counts (length list) s
           = numbers_only length m m sl work (shape_counts cap.counts (length list) s) numbers
           (rw (← laid, ← size) (counts_laid cap ready.roomy list s w)) (room ∙ sym (length_shape_counts cap.counts (length list) s)) in
           rw (is, known, ← laid, ← size)
 
       module _ (found : Opened) (copied : List ℕ) (w : Opening (untallied_view cap) numbered (store_of sl fresh) found copied) where
-        pub recounted-sheet : (n size : ℕ) → found ≡ opened.Sheet n size → Recounted cap sl m (opened.Sheet n size) copied fresh
-        recounted-sheet n size e =
+        pub recounted_sheet : (n size : ℕ) → found ≡ opened.Sheet n size → Recounted cap sl m (opened.Sheet n size) copied fresh
+        recounted_sheet n size e =
             let o = opened_sheet cap (store_of sl fresh) w n size e in
             let same : size ≡ m = sym o.size ∙ sym (size_known cap (store_of sl fresh) o.contents o.decoded) ∙ fresh_size in
             record {
@@ -75,11 +75,11 @@ module _ {cap : Capacity} (ready : CapacityReady cap) (sl : List ℕ) (m : ℕ) 
               none = λ cause e'. let z : ◌≡◌ {A = ℕ} 0 1 = cc in absurd (omega arith);
             }
 
-        pub recounted-none : (cause : Cause) → found ≡ opened.Refused cause → Recounted cap sl m (opened.Refused NotMendable) copied fresh
+        pub recounted_none : (cause : Cause) → found ≡ opened.Refused cause → Recounted cap sl m (opened.Refused NotMendable) copied fresh
         unfolding opened_as
-        recounted-none cause e = record {
+        recounted_none cause e = record {
           found = λ n size e'. let z : ◌≡◌ {A = ℕ} 0 1 = cc in absurd (omega arith);
-          none = λ cause' e'. (cc, λ list s contents laid size. no_sheet list s contents (sheet-counted list s contents laid size));
+          none = λ cause' e'. (cc, λ list s contents laid size. no_sheet list s contents (sheet_counted list s contents laid size));
         }
           where
             no_sheet : (list : List ℕ) (s : Shape) → IsContents cap list s → store_of sl fresh ≡ lay_out cap list s → ⊥

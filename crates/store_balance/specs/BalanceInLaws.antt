@@ -13,7 +13,7 @@ use Rattle.std.proofs.Math.Seq.{take-append-add, get_or-append-add, get_or-drop}
 use Rattle.base.specs.Lists.{Every, total}
 use Rattle.base.specs.ListLaws.{every_drop, total_append, replicate_at}
 use Rattle.tree_sizes.specs.Sizes.{height, leaf_slots, Fits}
-use Rattle.tree_sizes.specs.Fit.{fit, fits_halves}
+use Rattle.tree_sizes.proofs.Fit.{fit, fits_halves}
 use Rattle.tree_rules.specs.Tree.{Tree, leaf, node, Balanced, Shape}
 use Rattle.tree_counts.specs.Ranges.{Perfect}
 use Rattle.tree_counts.specs.RangeLaws.{balanced_perfect}
@@ -22,8 +22,8 @@ use Rattle.store_layout.specs.Leaf.{nonzero}
 use Rattle.store_layout.specs.Layout.{leaf_counts, lay_leaves, pad_to, lay_slots}
 use Rattle.store_layout.specs.Sheet.{IsContents}
 use Rattle.store_layout.specs.Room.{Roomy}
-use Rattle.store_layout.specs.LeafLaws.{nonzero_append, nonzero_zeros}
-use Rattle.store_layout.specs.LayoutLaws.{length_leaf_counts, leaf_counts_total, leaf_counts_fit, length_lay_leaves, lay_leaves_append, nonzero_lay_leaves}
+use Rattle.store_layout.proofs.LeafLaws.{nonzero_append, nonzero_zeros}
+use Rattle.store_layout.proofs.LayoutLaws.{length_leaf_counts, leaf_counts_total, leaf_counts_fit, length_lay_leaves, lay_leaves_append, nonzero_lay_leaves}
 use Rattle.store_balance.specs.Balance.{lay_balance, HoldsBalance}
 use Rattle.store_balance.specs.BalanceIn.{first_from, rows_to, balance_in}
 use Rattle.store_balance.specs.BalanceLaws.{balance_only}

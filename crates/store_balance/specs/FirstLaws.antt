@@ -3,7 +3,7 @@ use Rattle.std.specs.Prelude.{◌≡◌, List, ℕ, ◌+◌, ◌≤◌, ◌<◌,
 use Rattle.std.proofs.Common.{add-one, arith, drop_of_length-le}
 use Rattle.std.proofs.Math.Seq.{drop-cons}
 use Rattle.store_layout.specs.Leaf.{nonzero}
-use Rattle.store_layout.specs.LeafLaws.{nonzero_zero, nonzero_entry}
+use Rattle.store_layout.proofs.LeafLaws.{nonzero_zero, nonzero_entry}
 use Rattle.store_balance.specs.BalanceIn.{first_from}
 
 module _ (slots : List ℕ) (i : ℕ) where

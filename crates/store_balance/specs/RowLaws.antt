@@ -11,7 +11,7 @@ use Rattle.std.proofs.Math.Pow.{pow_pos, pow-add}
 use Rattle.std.proofs.Math.Seq.{drop-length, get_or-append-add, drop-append-add}
 use Rattle.base.specs.ListLaws.{length_tabulate, get_d_tabulate, drop_replicate}
 use Rattle.tree_sizes.specs.Sizes.{height, leaf_slots, slots}
-use Rattle.tree_sizes.specs.SizeLaws.{slots_le}
+use Rattle.tree_sizes.proofs.SizeLaws.{slots_le}
 use Rattle.store_layout.specs.Layout.{pad_to}
 use Rattle.store_slices.specs.Pasted.{Pasted}
 use Rattle.store_slices.specs.PastedLaws.{pasted_next, pasted_is}

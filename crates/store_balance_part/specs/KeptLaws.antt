@@ -9,7 +9,7 @@ use Rattle.std.proofs.Math.ListN.{get_or, drop, get_or-append}
 use Rattle.tree_sizes.specs.Sizes.{height, leaf_slots}
 use Rattle.tree_counts.specs.declared.Part.{Part}
 use Rattle.store_layout.specs.Leaf.{nonzero}
-use Rattle.store_layout.specs.LeafLaws.{nonzero_append}
+use Rattle.store_layout.proofs.LeafLaws.{nonzero_append}
 use Rattle.store_sums.specs.KeptLaws.{part_before}
 use Rattle.store_balance.specs.BalanceIn.{first_from, balance_in}
 use Rattle.store_balance.specs.BalanceInLaws.{balance_in_zero, balance_in_unused}

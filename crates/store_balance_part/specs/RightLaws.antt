@@ -5,7 +5,7 @@ use Rattle.std.proofs.Common.{sym, ap, ◌∙◌, ⊎_elim, mul-le-mul_left, mul
 use Rattle.std.proofs.Math.Nat.{pow-succ'}
 use Rattle.base.specs.CaseLaws.{lt_or_ge}
 use Rattle.tree_sizes.specs.Sizes.{height, leaf_slots}
-use Rattle.tree_sizes.specs.SizeLaws.{power_order}
+use Rattle.tree_sizes.proofs.SizeLaws.{power_order}
 use Rattle.tree_counts.specs.Ranges.{Below}
 use Rattle.store_balance.specs.BalanceIn.{balance_in}
 use Rattle.store_balance.specs.BalanceLaws.{below_above}

@@ -8,8 +8,8 @@ use Rattle.base.specs.Lists.{Every}
 use Rattle.base.specs.CaseLaws.{le_or_gt}
 use Rattle.base.specs.ListLaws.{every_append, every_get_d, part_at}
 use Rattle.tree_sizes.specs.Sizes.{height, Fits}
-use Rattle.tree_sizes.specs.SizeLaws.{height_small}
-use Rattle.tree_sizes.specs.Fit.{fit, fits_halves, fits_entry}
+use Rattle.tree_sizes.proofs.SizeLaws.{height_small}
+use Rattle.tree_sizes.proofs.Fit.{fit, fits_halves, fits_entry}
 use Rattle.tree_rules.specs.Tree.{Tree, leaf, node, Balanced, Shape}
 use Rattle.tree_counts.specs.declared.Part.{Part}
 use Rattle.tree_counts.specs.RangeLaws.{balanced_perfect}
@@ -19,7 +19,7 @@ use Rattle.store_layout.specs.declared.Capacity.{Capacity}
 use Rattle.store_layout.specs.Layout.{leaf_counts, lay_slots}
 use Rattle.store_layout.specs.Sheet.{IsContents}
 use Rattle.store_layout.specs.Room.{Roomy}
-use Rattle.store_layout.specs.LayoutLaws.{length_leaf_counts, holds_leaves}
+use Rattle.store_layout.proofs.LayoutLaws.{length_leaf_counts, holds_leaves}
 use Rattle.store_rows.specs.Row.{Row}
 use Rattle.store_sums.specs.Range.{IsRange}
 use Rattle.store_sums.specs.LaidLaws.{counts_laid}

@@ -3,7 +3,7 @@ use Rattle.std.specs.Prelude.{◌≡◌, List, ◌≢◌, ℕ, zero, suc, ◌+�
 use Rattle.std.proofs.Common.{sym, ◌∙◌, ⊎_elim, mul-le-mul_left, arith, ext_get_or, get_or-set_same, get_or-set_other}
 use Rattle.base.specs.CaseLaws.{eq_or_ne, lt_or_ge}
 use Rattle.tree_sizes.specs.Sizes.{height, leaf_slots, slots}
-use Rattle.tree_sizes.specs.SizeLaws.{slots_le}
+use Rattle.tree_sizes.proofs.SizeLaws.{slots_le}
 use Rattle.store_balance.specs.BalanceIn.{balance_in}
 use Rattle.store_balance.specs.BalanceInLaws.{length_balance_in, balance_in_zero, balance_in_unused}
 use Rattle.store_balance_part.specs.Update.{RightFrom, entry_from, EntriesBut, BalanceBut}

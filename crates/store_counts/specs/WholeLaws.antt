@@ -6,9 +6,9 @@ use Rattle.store_order.specs.TreeOrder.{tree_order}
 use Rattle.store_order.specs.Copied.{put_to, put_from, RestCopied}
 use Rattle.store_order.specs.CountOrder.{count_place, count_order, number_order}
 use Rattle.store_order.specs.Places.{places_from}
-use Rattle.store_order.specs.CountOrderLaws.{place_low}
+use Rattle.store_order.proofs.CountOrderLaws.{place_low}
 use Rattle.store_order.specs.PlacesLaws.{get_d_places}
-use Rattle.store_order.specs.ListedLaws.{put_numbers, put_places, table_numbers, table_places}
+use Rattle.store_order.proofs.ListedLaws.{put_numbers, put_places, table_numbers, table_places}
 use Rattle.store_order.specs.TreeReady.{TreeReady}
 
 -- An entry of the table is a place, and so it is inside.

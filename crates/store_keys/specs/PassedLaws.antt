@@ -5,7 +5,7 @@ use mathlib.Core.List.{List, [], ◌∷◌}
 use Rattle.base.specs.CaseLaws.{if_eq_yes, if_eq_no}
 use Rattle.base.specs.BoolLaws.{and_true, and_assoc}
 use Rattle.store_layout.specs.Leaf.{nonzero}
-use Rattle.store_layout.specs.LeafLaws.{nonzero_zero, nonzero_entry}
+use Rattle.store_layout.proofs.LeafLaws.{nonzero_zero, nonzero_entry}
 use Rattle.store_keys.specs.Key.{key, rise_from}
 use Rattle.store_keys.specs.Passed.{key_after, entries_from}
 

@@ -7,14 +7,14 @@ use Rattle.base.specs.Cases.{if_le}
 use Rattle.base.specs.Lists.{Every}
 use Rattle.base.specs.ListLaws.{every_replicate, every_set}
 use Rattle.tree_sizes.specs.Sizes.{height, leaf_slots}
-use Rattle.tree_sizes.specs.SizeLaws.{height_small}
+use Rattle.tree_sizes.proofs.SizeLaws.{height_small}
 use Rattle.tree_rules.specs.Tree.{Tree, leaf, node, Balanced, Shape, IsShape}
 use Rattle.tree_counts.specs.Counts.{write_tree, shape_counts}
 use Rattle.tree_counts.specs.ShapeCountLaws.{length_shape_counts}
 use Rattle.store_layout.specs.declared.Capacity.{Capacity}
 use Rattle.store_layout.specs.Leaf.{put_entries, spread}
 use Rattle.store_layout.specs.Layout.{leaf_counts, lay_leaves, pad_to, lay_slots, lay_counts, lay_out}
-use Rattle.store_order.specs.CountOrderLaws.{length_count_order, every_count_order}
+use Rattle.store_order.proofs.CountOrderLaws.{length_count_order, every_count_order}
 
 abbrev empty_shape : Shape
 empty_shape = record { size = 0; tree = leaf }

@@ -8,14 +8,7 @@ pub mod Ready
 pub mod Quotient
 pub mod Pass
 pub mod Examples
-pub mod LeafLaws
-pub mod QuotientLaws
 pub mod NumberedLaws
-pub mod LayoutLaws
 pub mod RoomLaws
-pub mod SheetLaws
 pub mod EmptyLaws
-pub mod LeafLoop
-pub mod LeavesLoop
-pub mod GatherLoop
 pub mod EntryLaws

@@ -5,7 +5,7 @@ use Rattle.tree_sizes.specs.Sizes.{height}
 use Rattle.store_order.specs.CountOrder.{count_order}
 use Rattle.store_layout.specs.Layout.{Store}
 use Rattle.store_layout.specs.Decode.{numbered}
-use Rattle.store_order.specs.CountOrderLaws.{length_number_order, count_order_size, number_order_size, number_order_root, every_number_order, number_count, count_number}
+use Rattle.store_order.proofs.CountOrderLaws.{length_number_order, count_order_size, number_order_size, number_order_root, every_number_order, number_count, count_number}
 
 module _ (store : Store) where
   pub length_numbered : length (numbered store) ≡ length store.counts

@@ -9,7 +9,7 @@ use Rattle.base.specs.ListLaws.{find, length_tabulate, get_d_tabulate, every_tab
 use Rattle.store_layout.specs.Leaf.{slot_of, spread, nonzero}
 use Rattle.store_leaf_test.specs.Ready.{LeafTestReady}
 use Rattle.store_leaf_test.specs.Check.{leaf_test}
-use Rattle.store_layout.specs.LeafLaws.{slot_of_positions, nonzero_zero, nonzero_entry, nonzero_positive, length_spread, spread_entry, spread_gap, nonzero_spread}
+use Rattle.store_layout.proofs.LeafLaws.{slot_of_positions, nonzero_zero, nonzero_entry, nonzero_positive, length_spread, spread_entry, spread_gap, nonzero_spread}
 
 -- ---- the test
 

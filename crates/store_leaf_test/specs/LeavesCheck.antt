@@ -31,29 +31,29 @@ module _ {all : List ℕ} {s : ℕ} {counts : List ℕ} {first leaves : ℕ} (re
       number_at : get_or numbers j 0 ≡ n
       number_at = part_at counts first leaves j 0 more ∙ sym here
 
-      next-number : drop j numbers ≡ n ∷ drop (j + 1) numbers
-      next-number = drop-cons numbers j 0 (omega (arith, length_numbers)) ∙ rw (number_at, add-one j)
+      next_number : drop j numbers ≡ n ∷ drop (j + 1) numbers
+      next_number = drop-cons numbers j 0 (omega (arith, length_numbers)) ∙ rw (number_at, add-one j)
 
-      pub next-leaf : LeafTestReady all from s n
-      next-leaf = record {
+      pub next_leaf : LeafTestReady all from s n
+      next_leaf = record {
         slots_room = omega (arith, w.from_is, mul-le-mul_left s more, ready.slots_room);
         fit = rw number_at at (every_get_d (λ c. c ≤ s) numbers j 0 ready.fit (omega (arith, length_numbers)));
         small = ready.small;
       }
 
       module _ {r : Bool} (r-is : r ≡ leaf_test s n (take s (drop from all))) where
-        remaining-less : Remaining all s numbers (so_far && r) (j + 1) (from + s)
+        remaining_less : Remaining all s numbers (so_far && r) (j + 1) (from + s)
         unfolding leaves_test
-        remaining-less = record {
+        remaining_less = record {
           from_is = omega (arith, w.from_is);
-          left = w.left ∙ rw (next-number, ← r-is, drop-drop s from all) (sym (and_assoc so_far r _));
+          left = w.left ∙ rw (next_number, ← r-is, drop-drop s from all) (sym (and_assoc so_far r _));
         }
 
-        pub remaining-right : r ≡ true → Remaining all s numbers so_far (j + 1) (from + s)
-        remaining-right e = rw (e, and_true so_far) at remaining-less
+        pub remaining_right : r ≡ true → Remaining all s numbers so_far (j + 1) (from + s)
+        remaining_right e = rw (e, and_true so_far) at remaining_less
 
-        pub remaining-wrong : r ≡ false → Remaining all s numbers false (j + 1) (from + s)
-        remaining-wrong e = rw (e, and_false so_far) at remaining-less
+        pub remaining_wrong : r ≡ false → Remaining all s numbers false (j + 1) (from + s)
+        remaining_wrong e = rw (e, and_false so_far) at remaining_less
 
   -- A leaf that is not as it should be decides the test.
   pub remaining_broken : {j from : ℕ} → Remaining all s numbers false j from → leaves_test s numbers all ≡ false

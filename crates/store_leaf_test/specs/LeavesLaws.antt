@@ -5,7 +5,7 @@ use Rattle.base.specs.Lists.{Every, total}
 use Rattle.base.specs.BoolLaws.{and_both}
 use Rattle.base.specs.ListLaws.{every_take, every_drop}
 use Rattle.store_layout.specs.Leaf.{spread, nonzero}
-use Rattle.store_layout.specs.LeafLaws.{length_spread, nonzero_append}
+use Rattle.store_layout.proofs.LeafLaws.{length_spread, nonzero_append}
 use Rattle.store_layout.specs.Layout.{lay_leaves}
 use Rattle.store_leaf_test.specs.Check.{leaf_test, leaves_test}
 use Rattle.store_leaf_test.specs.LeafCheck.{leaf_sound, leaf_test_lem}

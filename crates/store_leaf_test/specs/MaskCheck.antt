@@ -4,7 +4,7 @@ use Rattle.std.proofs.Common.{sym, ap, ◌∙◌, arith}
 use Rattle.base.specs.BoolLaws.{not_true_false}
 use Rattle.base.specs.ListLaws.{length_part, part_at}
 use Rattle.store_layout.specs.Leaf.{slot_of, nonzero}
-use Rattle.store_layout.specs.LeafLaws.{slot_of_positions, nonzero_positive}
+use Rattle.store_layout.proofs.LeafLaws.{slot_of_positions, nonzero_positive}
 use Rattle.store_masks.specs.Mask.{taken, mask, masks}
 use Rattle.store_masks.specs.MaskLaws.{mask_spread, mask_number, mask_places, mask_at}
 use Rattle.store_leaf_test.specs.Ready.{LeafTestReady}

@@ -9,7 +9,7 @@ use Rattle.base.specs.Lists.{Every}
 use Rattle.base.specs.CaseLaws.{lt_or_ge}
 use Rattle.base.specs.ListLaws.{every_get_d, every_replicate, length_tabulate, get_d_tabulate, find}
 use Rattle.store_layout.specs.Leaf.{slot_of, spread, nonzero}
-use Rattle.store_layout.specs.LeafLaws.{slot_of_positions, nonzero_zero, nonzero_entry, length_spread, spread_entry, spread_gap, nonzero_spread}
+use Rattle.store_layout.proofs.LeafLaws.{slot_of_positions, nonzero_zero, nonzero_entry, length_spread, spread_entry, spread_gap, nonzero_spread}
 use Rattle.store_masks.specs.Mask.{is_taken, taken, mask, masks}
 
 -- ---- one slot

@@ -7,11 +7,6 @@ pub mod Places
 pub mod TreeReady
 pub mod OccursLaws
 pub mod CopiedLaws
-pub mod TreeOrderLaws
-pub mod CountOrderLaws
-pub mod PutLaws
-pub mod TreeReadyLaws
 pub mod PlacesLaws
 pub mod RestCopiedLaws
-pub mod ListedLaws
 pub mod Examples

@@ -5,8 +5,8 @@ use Rattle.std.proofs.Common.{le_refl, arith}
 use Rattle.base.specs.Lists.{Every}
 use Rattle.base.specs.ListLaws.{every_set, every_replicate}
 use Rattle.tree_sizes.specs.Sizes.{height, candidates, Fits}
-use Rattle.tree_sizes.specs.SizeLaws.{candidate_below}
-use Rattle.tree_sizes.specs.Fit.{fit, fits_count, fits_halves}
+use Rattle.tree_sizes.proofs.SizeLaws.{candidate_below}
+use Rattle.tree_sizes.proofs.Fit.{fit, fits_count, fits_halves}
 use Rattle.tree_rules.specs.Tree.{Tree, leaf, node, Balanced, Shape, IsShape}
 use Rattle.tree_counts.specs.Counts.{write_tree, shape_counts}
 

@@ -10,7 +10,7 @@ use Rattle.tree_rules.specs.Rules.{at_rank}
 use Rattle.tree_rules.specs.ChangeList.{change_list}
 use Rattle.tree_counts.specs.declared.Part.{Part}
 use Rattle.store_layout.specs.Layout.{lay_leaves}
-use Rattle.store_layout.specs.LayoutLaws.{length_lay_leaves}
+use Rattle.store_layout.proofs.LayoutLaws.{length_lay_leaves}
 use Rattle.store_part.specs.Region.{leaves_of}
 use Rattle.store_part.specs.Plan.{part_from, part_length, part_counts}
 use Rattle.store_part.specs.PlanLaws.{zeroed_none}

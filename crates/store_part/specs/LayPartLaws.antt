@@ -3,7 +3,7 @@ use Rattle.std.specs.Prelude.{◌≡◌, List, ◌++◌, ℕ, ◌+◌, ◌-◌, 
 use Rattle.std.proofs.Common.{◌∙◌, arith, mul-le-mul_left, mul-add}
 use Rattle.base.specs.Lists.{total}
 use Rattle.tree_sizes.specs.Sizes.{leaf_slots, slots}
-use Rattle.tree_sizes.specs.SizeLaws.{slots_le, leaf_slots_most}
+use Rattle.tree_sizes.proofs.SizeLaws.{slots_le, leaf_slots_most}
 use Rattle.tree_rules.specs.declared.Change.{Change}
 use Rattle.tree_rules.specs.Compare.{count_after}
 use Rattle.tree_rules.specs.Rules.{at_rank, InReach}
@@ -11,7 +11,7 @@ use Rattle.tree_rules.specs.ChangeLaws.{count_most, count_rank}
 use Rattle.tree_counts.specs.declared.Part.{Part}
 use Rattle.store_layout.specs.Leaf.{nonzero}
 use Rattle.store_layout.specs.Ready.{LeavesReady, GatherReady, Gathered}
-use Rattle.store_layout.specs.LayoutLaws.{lay_leaves_take}
+use Rattle.store_layout.proofs.LayoutLaws.{lay_leaves_take}
 use Rattle.tree_rules.specs.ChangeList.{change_list}
 use Rattle.store_slices.specs.Changed.{Changed}
 use Rattle.store_part.specs.Region.{leaves_of, leaves_before}

@@ -4,7 +4,7 @@ use Rattle.std.proofs.Math.Path.{sym, ap}
 use Rattle.std.proofs.Common.{◌∙◌, mul-le-mul_right, pow-add, pow_mono, pow_pos}
 use native.Mathlib.Omega.{arith}
 use Rattle.tree_sizes.specs.Sizes.{height, leaf_slots}
-use Rattle.tree_sizes.specs.SizeLaws.{height_most}
+use Rattle.tree_sizes.proofs.SizeLaws.{height_most}
 use Rattle.tree_counts.specs.declared.Part.{Part}
 use Rattle.store_rows.specs.Row.{Row}
 use Rattle.store_sums.specs.Numbers.{NumbersBut, NumbersIn}

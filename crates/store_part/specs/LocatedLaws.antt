@@ -6,10 +6,10 @@ use Rattle.std.proofs.Math.Pow.{pow-add}
 use Rattle.std.proofs.Math.Nat.{pow-succ'}
 use Rattle.std.proofs.Math.ListN.{length-take, length-drop, length-append}
 use Rattle.std.proofs.Math.Seq.{take-nil, drop-nil}
-use Rattle.base.specs.ListLaws.{every_take, every_drop, joined-take, joined-drop}
+use Rattle.base.specs.ListLaws.{every_take, every_drop, joined_take, joined_drop}
 use Rattle.tree_sizes.specs.Sizes.{candidates}
-use Rattle.tree_sizes.specs.SizeLaws.{candidate_below}
-use Rattle.tree_sizes.specs.Fit.{fits_count, fits_halves}
+use Rattle.tree_sizes.proofs.SizeLaws.{candidate_below}
+use Rattle.tree_sizes.proofs.Fit.{fits_count, fits_halves}
 use Rattle.tree_rules.specs.declared.Change.{Change}
 use Rattle.tree_rules.specs.declared.Change.TheVariants.{Insert, Delete}
 use Rattle.tree_rules.specs.Tree.{Tree, leaf, node, Balanced}
@@ -21,7 +21,7 @@ use Rattle.tree_counts.specs.Counts.{Holds}
 use Rattle.tree_counts.specs.RangeLaws.{balanced_perfect}
 use Rattle.tree_counts.specs.Confined.{Within}
 use Rattle.store_layout.specs.Layout.{leaf_counts, lay_leaves}
-use Rattle.store_layout.specs.LayoutLaws.{leaf_counts_total, length_leaf_counts, length_lay_leaves, lay_leaves_node}
+use Rattle.store_layout.proofs.LayoutLaws.{leaf_counts_total, length_leaf_counts, length_lay_leaves, lay_leaves_node}
 use Rattle.tree_rules.specs.ChangeList.{change_list}
 use Rattle.store_part.specs.Located.{IsRange, Located}
 
@@ -68,18 +68,18 @@ left_drop (Delete i) e (suc b) xs h = let d : suc b - 1 ≡ b = omega arith in r
 -- the change falls behind it
 right_take : (change : Change) (e b : ℕ) (xs : List ℕ) → b < rank_of change → InReach change (length xs) → take b (change_list change e xs) ≡ take b xs
 unfolding InReach rank_of change_list
-right_take (Insert i) e b xs l h = joined-take i xs (e ∷ drop i xs) h b (omega (arith, l))
-right_take (Delete i) e b xs l h = joined-take i xs (drop (suc i) xs) (omega (arith, h)) b (omega (arith, l))
+right_take (Insert i) e b xs l h = joined_take i xs (e ∷ drop i xs) h b (omega (arith, l))
+right_take (Delete i) e b xs l h = joined_take i xs (drop (suc i) xs) (omega (arith, h)) b (omega (arith, l))
 
 right_drop : (change : Change) (e b : ℕ) (xs : List ℕ) → b < rank_of change → InReach change (length xs)
     → drop b (change_list change e xs) ≡ change_list (at_rank change (rank_of change - b)) e (drop b xs)
 unfolding InReach rank_of at_rank change_list
 right_drop (Insert i) e b xs l h =
     let d : b + (i - b) ≡ i = omega (arith, l) in
-    joined-drop i xs (e ∷ drop i xs) h b (omega (arith, l)) ∙ rw (drop-drop (i - b) b xs, d)
+    joined_drop i xs (e ∷ drop i xs) h b (omega (arith, l)) ∙ rw (drop-drop (i - b) b xs, d)
 right_drop (Delete i) e b xs l h =
     let d : b + suc (i - b) ≡ suc i = omega (arith, l) in
-    joined-drop i xs (drop (suc i) xs) (omega (arith, h)) b (omega (arith, l)) ∙ rw (drop-drop (suc (i - b)) b xs, d)
+    joined_drop i xs (drop (suc i) xs) (omega (arith, h)) b (omega (arith, l)) ∙ rw (drop-drop (suc (i - b)) b xs, d)
 
 -- ---- a range and its halves
 

@@ -9,7 +9,7 @@ use Rattle.std.proofs.lemmas.List.{length-replicate, replicate-append-replicate}
 use Rattle.std.proofs.Math.Seq.{take-append_seam, drop-append_seam, drop-append-add}
 use Rattle.base.specs.ListLaws.{drop_replicate}
 use Rattle.tree_sizes.specs.Sizes.{height, leaf_slots, slots}
-use Rattle.tree_sizes.specs.Fit.{fit}
+use Rattle.tree_sizes.proofs.Fit.{fit}
 use Rattle.tree_rules.specs.declared.Change.{Change}
 use Rattle.tree_rules.specs.Tree.{Tree, Shape, IsShape}
 use Rattle.tree_rules.specs.Compare.{count_after}
@@ -27,8 +27,8 @@ use Rattle.store_layout.specs.declared.Capacity.{Capacity}
 use Rattle.store_layout.specs.Layout.{leaf_counts, lay_leaves, pad_to, lay_slots}
 use Rattle.store_layout.specs.Sheet.{IsContents}
 use Rattle.store_layout.specs.Room.{Roomy}
-use Rattle.store_layout.specs.LayoutLaws.{holds_leaves, leaf_counts_total, leaf_counts_fit, nonzero_lay_leaves}
-use Rattle.store_layout.specs.SheetLaws.{leaves_lay_out}
+use Rattle.store_layout.proofs.LayoutLaws.{holds_leaves, leaf_counts_total, leaf_counts_fit, nonzero_lay_leaves}
+use Rattle.store_layout.proofs.SheetLaws.{leaves_lay_out}
 use Rattle.tree_rules.specs.ChangeList.{change_list}
 use Rattle.tree_rules.specs.ChangeListLaws.{length_changed}
 use Rattle.store_part.specs.Region.{leaves_of, leaves_before}

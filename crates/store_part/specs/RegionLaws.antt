@@ -2,7 +2,7 @@
 use Rattle.std.specs.Prelude.{◌≡◌, ℕ, ◌+◌, ◌-◌, ◌*◌, ◌^◌, ◌≤◌, ◌<◌}
 use Rattle.std.proofs.Common.{sym, ◌∙◌, ap, pow-add, pow_mono, pow_pos, le_trans, mul-le-mul_right, arith}
 use Rattle.tree_sizes.specs.Sizes.{height}
-use Rattle.tree_sizes.specs.SizeLaws.{height_most}
+use Rattle.tree_sizes.proofs.SizeLaws.{height_most}
 use Rattle.store_part.specs.Region.{leaves_of, leaves_before}
 
 -- The leaves of a range stand among those of the sheet.

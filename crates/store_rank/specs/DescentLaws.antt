@@ -7,7 +7,7 @@ use Rattle.std.proofs.Math.Nat.{mul-le-mul_left, pow-succ'}
 use native.Mathlib.Omega.{arith}
 use Rattle.base.specs.CaseLaws.{if_lt_yes, if_lt_no}
 use Rattle.tree_sizes.specs.Sizes.{height, leaf_slots, slots}
-use Rattle.tree_sizes.specs.SizeLaws.{slots_le}
+use Rattle.tree_sizes.proofs.SizeLaws.{slots_le}
 use Rattle.store_rank.specs.declared.Start.{Start}
 use Rattle.store_rank.specs.LeafOf.{InLeaf, leaf_of, start_of}
 use Rattle.store_rank.specs.LeafOfLaws.{leaf_of_below}

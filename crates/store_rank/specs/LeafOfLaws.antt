@@ -12,8 +12,8 @@ use Rattle.base.specs.Lists.{Every}
 use Rattle.base.specs.CaseLaws.{by_lt}
 use Rattle.base.specs.ListLaws.{every_take, every_drop}
 use Rattle.tree_sizes.specs.Sizes.{height, leaf_slots, candidates, Fits}
-use Rattle.tree_sizes.specs.SizeLaws.{candidate_below}
-use Rattle.tree_sizes.specs.Fit.{fit, fits_count, fits_halves}
+use Rattle.tree_sizes.proofs.SizeLaws.{candidate_below}
+use Rattle.tree_sizes.proofs.Fit.{fit, fits_count, fits_halves}
 use Rattle.tree_rules.specs.Tree.{Tree, leaf, node, Balanced, Shape}
 use Rattle.tree_counts.specs.Ranges.{Below}
 use Rattle.tree_counts.specs.RangeLaws.{balanced_perfect, below_itself, below_left, below_right}
@@ -26,9 +26,9 @@ use Rattle.store_layout.specs.Layout.{Store, leaf_counts, lay_leaves, pad_to, la
 use Rattle.store_layout.specs.Sheet.{IsContents}
 use Rattle.store_layout.specs.Decode.{numbered, Contents, decode}
 use Rattle.store_layout.specs.Room.{Roomy}
-use Rattle.store_layout.specs.LeafLaws.{nonzero_append}
-use Rattle.store_layout.specs.LayoutLaws.{length_leaf_counts, leaf_counts_total, leaf_counts_fit, length_lay_leaves, lay_leaves_node, nonzero_lay_leaves}
-use Rattle.store_layout.specs.SheetLaws.{numbered_lay_out, decode_sound}
+use Rattle.store_layout.proofs.LeafLaws.{nonzero_append}
+use Rattle.store_layout.proofs.LayoutLaws.{length_leaf_counts, leaf_counts_total, leaf_counts_fit, length_lay_leaves, lay_leaves_node, nonzero_lay_leaves}
+use Rattle.store_layout.proofs.SheetLaws.{numbered_lay_out, decode_sound}
 use Rattle.store_rank.specs.LeafOf.{InLeaf, leaf_of, start_of}
 
 -- The leaf is one of those of the range.

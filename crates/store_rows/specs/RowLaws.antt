@@ -4,7 +4,7 @@ use Rattle.std.proofs.Common.{sym, ap, ◌∙◌, inl, inr, ⊎_elim, div-one, e
 use Rattle.std.proofs.Math.Nat.{div-div-eq-div-mul, pow-succ', zero-div}
 use Rattle.base.specs.CaseLaws.{lt_or_ge}
 use Rattle.store_order.specs.CountOrder.{count_place, range_at, count_order}
-use Rattle.store_order.specs.CountOrderLaws.{count_order_lem, length_count_order, get_d_count_order}
+use Rattle.store_order.proofs.CountOrderLaws.{count_order_lem, length_count_order, get_d_count_order}
 use Rattle.store_rows.specs.Above.{Above, PlacedBut}
 use Rattle.store_rows.specs.Row.{Row, RowsLeft, RowWritten}
 

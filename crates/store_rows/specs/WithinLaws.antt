@@ -5,10 +5,10 @@ use Rattle.std.proofs.Common.{sym, ap, ◌∙◌, add-zero, div-one, mod-lt, mul
 use Rattle.std.proofs.Math.Nat.{div-add-mod, div-eq_of_lt-le, pow-succ'}
 use Rattle.std.proofs.Math.ListN.{get_or-append}
 use Rattle.store_order.specs.TreeOrder.{each, tree_order}
-use Rattle.store_order.specs.TreeOrderLaws.{halves, order_more, length_order, order_first}
+use Rattle.store_order.proofs.TreeOrderLaws.{halves, order_more, length_order, order_first}
 use Rattle.store_order.specs.CountOrder.{stored, count_place}
-use Rattle.store_order.specs.CountOrderLaws.{range_inside, count_order_lem}
-use Rattle.store_order.specs.TreeReadyLaws.{place_inside, top_ready, lower_ready}
+use Rattle.store_order.proofs.CountOrderLaws.{range_inside, count_order_lem}
+use Rattle.store_order.proofs.TreeReadyLaws.{place_inside, top_ready, lower_ready}
 use Rattle.store_rows.specs.Within.{Within}
 
 -- ---- the parts of an order

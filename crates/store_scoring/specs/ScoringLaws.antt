@@ -9,7 +9,7 @@ use Rattle.std.proofs.lemmas.Nat.{and_le_l, and_le_r, or_lt, or_mod}
 use Rattle.base.specs.BoolLaws.{and_assoc, and_both, and_true, true_or_false}
 use Rattle.base.specs.CaseLaws.{eq_or_ne, le_or_gt}
 use Rattle.store_layout.specs.Leaf.{nonzero}
-use Rattle.store_layout.specs.LeafLaws.{nonzero_append, nonzero_zero, nonzero_entry, nonzero_length}
+use Rattle.store_layout.proofs.LeafLaws.{nonzero_append, nonzero_zero, nonzero_entry, nonzero_length}
 use Rattle.store_scoring.specs.Scoring.{retired_bit, tally, none_retired}
 
 -- ---- the bit

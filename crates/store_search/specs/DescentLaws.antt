@@ -7,7 +7,7 @@ use Rattle.std.proofs.Math.Nat.{mul-le-mul_left, pow-succ'}
 use native.Mathlib.Omega.{arith}
 use Rattle.base.specs.CaseLaws.{if_lt_yes, if_lt_no}
 use Rattle.tree_sizes.specs.Sizes.{height, leaf_slots, slots}
-use Rattle.tree_sizes.specs.SizeLaws.{slots_le}
+use Rattle.tree_sizes.proofs.SizeLaws.{slots_le}
 use Rattle.store_keys.specs.Key.{key}
 use Rattle.store_search.specs.declared.Start.{Start}
 use Rattle.store_search.specs.LeafFor.{LeafBehind, leaf_for, start_for}

@@ -11,8 +11,8 @@ use Rattle.base.specs.Lists.{Every}
 use Rattle.base.specs.CaseLaws.{by_lt}
 use Rattle.base.specs.ListLaws.{every_take, every_drop}
 use Rattle.tree_sizes.specs.Sizes.{leaf_slots, candidates, Fits}
-use Rattle.tree_sizes.specs.SizeLaws.{candidate_below}
-use Rattle.tree_sizes.specs.Fit.{fits_count, fits_halves}
+use Rattle.tree_sizes.proofs.SizeLaws.{candidate_below}
+use Rattle.tree_sizes.proofs.Fit.{fits_count, fits_halves}
 use Rattle.tree_rules.specs.Tree.{Tree, leaf, node, Balanced}
 use Rattle.tree_counts.specs.Ranges.{Below}
 use Rattle.tree_counts.specs.RangeLaws.{balanced_perfect, below_itself, below_left, below_right}
@@ -20,7 +20,7 @@ use Rattle.tree_counts.specs.Counts.{Holds}
 use Rattle.tree_counts.specs.CountLaws.{holds_count}
 use Rattle.store_layout.specs.Leaf.{nonzero}
 use Rattle.store_layout.specs.Layout.{leaf_counts, lay_leaves}
-use Rattle.store_layout.specs.LayoutLaws.{length_leaf_counts, leaf_counts_total, leaf_counts_fit, length_lay_leaves, lay_leaves_node, nonzero_lay_leaves}
+use Rattle.store_layout.proofs.LayoutLaws.{length_leaf_counts, leaf_counts_total, leaf_counts_fit, length_lay_leaves, lay_leaves_node, nonzero_lay_leaves}
 use Rattle.store_balance.specs.Balance.{HoldsBalance}
 use Rattle.store_keys.specs.Key.{key, Rises, rank_of, KeysBelow, KeysAbove}
 use Rattle.store_keys.specs.KeyLaws.{rise_take, rise_drop, keys_before, keys_from, rank_behind, present_behind, rank_before, present_before}

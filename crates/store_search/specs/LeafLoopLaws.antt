@@ -7,7 +7,7 @@ use mathlib.Core.List.{List, [], ◌∷◌}
 use Rattle.std.proofs.Math.ListN.{drop_of_length-le}
 use Rattle.base.specs.Cases.{if_lt}
 use Rattle.store_layout.specs.Leaf.{nonzero}
-use Rattle.store_layout.specs.LeafLaws.{nonzero_append, nonzero_zero, nonzero_entry, nonzero_length}
+use Rattle.store_layout.proofs.LeafLaws.{nonzero_append, nonzero_zero, nonzero_entry, nonzero_length}
 use Rattle.store_keys.specs.Key.{key, rank_of, present}
 use Rattle.store_keys.specs.KeyLaws.{rank_most, rank_append, present_append}
 use Rattle.store_search.specs.declared.Sought.{Sought}

@@ -6,8 +6,8 @@ use Rattle.std.proofs.Math.ListN.{length}
 use Rattle.std.proofs.Math.Nat.{mul-le-mul_left}
 use native.Mathlib.Omega.{arith}
 use Rattle.tree_sizes.specs.Sizes.{height, leaf_slots, slots}
-use Rattle.tree_sizes.specs.SizeLaws.{leaf_slots_most}
-use Rattle.tree_sizes.specs.Fit.{fit}
+use Rattle.tree_sizes.proofs.SizeLaws.{leaf_slots_most}
+use Rattle.tree_sizes.proofs.Fit.{fit}
 use Rattle.tree_rules.specs.Tree.{Shape}
 use Rattle.tree_counts.specs.Ranges.{Perfect}
 use Rattle.tree_counts.specs.RangeLaws.{balanced_perfect}
@@ -19,7 +19,7 @@ use Rattle.store_layout.specs.Layout.{leaf_counts, lay_leaves, pad_to, lay_slots
 use Rattle.store_layout.specs.Sheet.{IsContents}
 use Rattle.store_layout.specs.Decode.{list_of}
 use Rattle.store_layout.specs.Room.{CapacityReady}
-use Rattle.store_layout.specs.SheetLaws.{length_slots, list_of_lay_out}
+use Rattle.store_layout.proofs.SheetLaws.{length_slots, list_of_lay_out}
 use Rattle.store_balance.specs.Balance.{lay_balance}
 use Rattle.store_balance.specs.BalanceLaws.{length_lay_balance, balance_holds}
 use Rattle.store_keys.specs.Key.{Rises, rank_of}

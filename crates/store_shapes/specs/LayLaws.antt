@@ -8,8 +8,8 @@ use Rattle.base.specs.Lists.{total}
 use Rattle.base.specs.ListLaws.{drop_replicate}
 use Rattle.tree_sizes.specs.Sizes as sizes
 use Rattle.tree_sizes.specs.Sizes.{height, leaf_slots}
-use Rattle.tree_sizes.specs.SizeLaws.{leaf_slots_most}
-use Rattle.tree_sizes.specs.Fit.{fit}
+use Rattle.tree_sizes.proofs.SizeLaws.{leaf_slots_most}
+use Rattle.tree_sizes.proofs.Fit.{fit}
 use Rattle.tree_rules.specs.Tree.{Balanced, IsShape}
 use Rattle.tree_counts.specs.Ranges.{Perfect}
 use Rattle.tree_counts.specs.RangeLaws.{balanced_perfect}
@@ -18,7 +18,7 @@ use Rattle.tree_counts.specs.ShapeCountLaws.{length_shape_counts, shape_counts_h
 use Rattle.tree_shapes.specs.Shapes.{shape_at}
 use Rattle.tree_shapes.specs.MemberLaws.{shape_size, shape_is}
 use Rattle.store_layout.specs.Layout.{leaf_counts, lay_leaves, pad_to, lay_slots}
-use Rattle.store_layout.specs.LayoutLaws.{length_leaf_counts, leaf_counts_total, leaf_counts_fit, length_lay_leaves, lay_leaves_take, holds_leaves}
+use Rattle.store_layout.proofs.LayoutLaws.{length_leaf_counts, leaf_counts_total, leaf_counts_fit, length_lay_leaves, lay_leaves_take, holds_leaves}
 use Rattle.store_layout.specs.Ready.{LeavesReady}
 use Rattle.store_shapes.specs.Ready.{LayReady}
 

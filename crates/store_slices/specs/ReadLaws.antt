@@ -3,7 +3,7 @@ use Rattle.std.specs.Prelude.{◌≡◌, refl, List, [], ◌∷◌, ◌++◌, �
 use Rattle.std.proofs.Common.{sym, ◌∙◌, ap, ap₂, add-one, arith, length-drop, length-set, take-append-drop, drop-cons, take-suc, take-suc-set, drop-set-lt}
 use Rattle.std.proofs.lemmas.List.{take-set-le}
 use Rattle.store_layout.specs.Leaf.{nonzero}
-use Rattle.store_layout.specs.LeafLaws.{nonzero_zero, nonzero_entry, nonzero_length}
+use Rattle.store_layout.proofs.LeafLaws.{nonzero_zero, nonzero_entry, nonzero_length}
 use Rattle.store_slices.specs.Reading.{EntrySlot, Reading}
 
 -- ---- the slot i, where the entries behind the first `seen` are those of the slots from i on

@@ -6,7 +6,7 @@ use Rattle.base.specs.Lists.{total}
 use Rattle.base.specs.ListLaws.{total_front}
 use Rattle.store_layout.specs.Leaf.{spread}
 use Rattle.store_layout.specs.Ready.{LeavesReady}
-use Rattle.store_layout.specs.LeavesLoop.{Laid, laid_more, leaf_ready, next-total}
+use Rattle.store_layout.proofs.LeavesLoop.{Laid, laid_more, leaf_ready, next_total}
 use Rattle.store_spread.specs.SlotEntries.{entry_table}
 use Rattle.store_spread.specs.Ready.{TableReady}
 use Rattle.store_spread.specs.SlotEntriesLaws.{length_entry_table, row_at}
@@ -19,7 +19,7 @@ module _ {old : List ℕ} {from s : ℕ} {counts : List ℕ} {first leaves : ℕ
     {slots : List ℕ} {j to at : ℕ} (w : Laid old from s (take leaves (drop first counts)) list slots j to at) (upto : j ≤ leaves)
     {n : ℕ} (more : j < leaves) (here : n ≡ get_or counts (first + j) 0) where
   pub end_room : at + n < length list
-  end_room = omega (arith, next-total ready w upto more here, total_front (j + 1) (take leaves (drop first counts)), room)
+  end_room = omega (arith, next_total ready w upto more here, total_front (j + 1) (take leaves (drop first counts)), room)
 
   fit : n ≤ s
   fit = (leaf_ready ready w upto more here).fit

@@ -8,10 +8,10 @@ use Rattle.std.proofs.Math.Nat.{zero-add}
 use Rattle.base.specs.Lists.{tabulate}
 use Rattle.base.specs.ListLaws.{length_part, part_at, length_tabulate, get_d_tabulate, find}
 use Rattle.store_order.specs.TreeOrder.{each}
-use Rattle.store_order.specs.TreeOrderLaws.{length_each, each_append}
+use Rattle.store_order.proofs.TreeOrderLaws.{length_each, each_append}
 use Rattle.store_layout.specs.declared.Leaf.{Leaf}
 use Rattle.store_layout.specs.Leaf.{slot_of}
-use Rattle.store_layout.specs.LeafLaws.{slot_of_positions, length_put, put_other, put_at, spread_entry, spread_gap}
+use Rattle.store_layout.proofs.LeafLaws.{slot_of_positions, length_put, put_other, put_at, spread_entry, spread_gap}
 use Rattle.store_layout.specs.Pass.{rule_of}
 use Rattle.store_spread.specs.SlotEntries.{slot_entries, entry_table}
 use Rattle.store_spread.specs.Ready.{TableReady}

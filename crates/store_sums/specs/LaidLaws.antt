@@ -13,8 +13,8 @@ use Rattle.base.specs.Lists.{Every}
 use Rattle.base.specs.CaseLaws.{lt_or_ge}
 use Rattle.base.specs.ListLaws.{every_take, every_drop}
 use Rattle.tree_sizes.specs.Sizes.{height, leaf_slots, candidates, Fits}
-use Rattle.tree_sizes.specs.SizeLaws.{candidate_below}
-use Rattle.tree_sizes.specs.Fit.{fit, fits_count, fits_halves}
+use Rattle.tree_sizes.proofs.SizeLaws.{candidate_below}
+use Rattle.tree_sizes.proofs.Fit.{fit, fits_count, fits_halves}
 use Rattle.tree_rules.specs.Tree.{Tree, leaf, node, Balanced, Shape}
 use Rattle.tree_counts.specs.Ranges.{Below}
 use Rattle.tree_counts.specs.RangeLaws.{balanced_perfect, below_only, below_halves}
@@ -25,7 +25,7 @@ use Rattle.store_layout.specs.Leaf.{nonzero}
 use Rattle.store_layout.specs.Layout.{leaf_counts, lay_leaves, pad_to, lay_slots}
 use Rattle.store_layout.specs.Sheet.{IsContents}
 use Rattle.store_layout.specs.Room.{Roomy}
-use Rattle.store_layout.specs.LayoutLaws.{length_leaf_counts, leaf_counts_total, leaf_counts_fit, length_lay_leaves, lay_leaves_node, nonzero_lay_leaves}
+use Rattle.store_layout.proofs.LayoutLaws.{length_leaf_counts, leaf_counts_total, leaf_counts_fit, length_lay_leaves, lay_leaves_node, nonzero_lay_leaves}
 use Rattle.store_sums.specs.Range.{IsRange, range_slots}
 use Rattle.store_sums.specs.Numbers.{number_at, NumbersIn}
 use Rattle.store_sums.specs.IsRangeLaws.{below_from, below_end, range_below, range_from, range_end, number_range}

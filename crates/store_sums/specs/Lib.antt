@@ -11,4 +11,3 @@ pub mod SmallLaws
 pub mod KeptLaws
 pub mod PlacedLaws
 pub mod LaidLaws
-pub mod TreeInLaws

@@ -4,7 +4,7 @@ use Rattle.std.proofs.Common.{sym, ap, ◌∙◌, ⊎_elim, arith, le-div_iff_mu
 use Rattle.base.specs.CaseLaws.{lt_or_ge, le_or_gt}
 use Rattle.tree_sizes.specs.Sizes.{height}
 use Rattle.store_order.specs.CountOrder.{count_place, count_order}
-use Rattle.store_order.specs.CountOrderLaws.{count_order_lem, length_count_order, get_d_number_order, number_count, count_order_unused}
+use Rattle.store_order.proofs.CountOrderLaws.{count_order_lem, length_count_order, get_d_number_order, number_count, count_order_unused}
 use Rattle.store_rows.specs.Above.{Above, PlacedBut}
 use Rattle.store_sums.specs.Range.{IsRange}
 use Rattle.store_sums.specs.Numbers.{NumbersBut, NumbersIn}

@@ -8,7 +8,7 @@ use Rattle.base.specs.CaseLaws.{lt_or_ge}
 use Rattle.base.specs.ListLaws.{every_from}
 use Rattle.tree_sizes.specs.Sizes.{height, leaf_slots}
 use Rattle.store_layout.specs.Leaf.{nonzero}
-use Rattle.store_layout.specs.LeafLaws.{nonzero_length}
+use Rattle.store_layout.proofs.LeafLaws.{nonzero_length}
 use Rattle.store_sums.specs.Range.{range_slots}
 use Rattle.store_sums.specs.Numbers.{Additive, number_at, NumbersIn}
 use Rattle.store_sums.specs.IsRangeLaws.{number_range}

@@ -9,7 +9,7 @@ use Rattle.std.proofs.Math.Seq.{take-add, drop-drop}
 use Rattle.tree_sizes.specs.Sizes as sizes
 use Rattle.tree_sizes.specs.Sizes.{height, leaf_slots}
 use Rattle.store_layout.specs.Leaf.{nonzero}
-use Rattle.store_layout.specs.LeafLaws.{nonzero_append, nonzero_length}
+use Rattle.store_layout.proofs.LeafLaws.{nonzero_append, nonzero_length}
 use Rattle.store_sums.specs.Range.{IsRange, range_slots}
 use Rattle.store_sums.specs.Numbers.{Additive, number_at, number_before}
 use Rattle.store_sums.specs.IsRangeLaws.{range_from}

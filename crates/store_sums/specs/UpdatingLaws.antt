@@ -5,7 +5,7 @@ use Rattle.std.proofs.Common.{◌∙◌, ⊎_elim, mul-le-mul_right, eq-or-lt_of
 use Rattle.std.proofs.Math.Nat.{pow-succ'}
 use Rattle.base.specs.CaseLaws.{lt_or_ge, eq_or_ne}
 use Rattle.tree_sizes.specs.Sizes.{height}
-use Rattle.tree_sizes.specs.SizeLaws.{below_power, slots_le}
+use Rattle.tree_sizes.proofs.SizeLaws.{below_power, slots_le}
 use Rattle.store_sums.specs.Range.{IsRange}
 use Rattle.store_sums.specs.Numbers.{Additive, number_at, NumbersBut, NumbersIn}
 use Rattle.store_sums.specs.SumLaws.{row_twice, range_left, range_right, range_small, number_halves}
@@ -135,30 +135,30 @@ module _ {measure : List ℕ → ℕ} {start M : ℕ} {slots : List ℕ} where
           let twice = row_twice (height M) levels above in
           record { inside = above; from = omega (arith, twice, v.from); before = omega (arith, twice, v.before) }
 
-      pub updating-room : 2 * (last / 2 + 1) ≤ 2 * 2 ^ height M
-      updating-room = let few : height M - levels ≤ height M = omega arith in omega (arith, w.to.before, pow_mono few)
+      pub updating_room : 2 * (last / 2 + 1) ≤ 2 * 2 ^ height M
+      updating_room = let few : height M - levels ≤ height M = omega arith in omega (arith, w.to.before, pow_mono few)
 
-      halves-right : (k : ℕ) → IsRange M (suc levels) k → halves_sum words k ≡ number_at measure M slots (suc levels) k
+      halves_right : (k : ℕ) → IsRange M (suc levels) k → halves_sum words k ≡ number_at measure M slots (suc levels) k
       unfolding halves_sum
-      halves-right k v =
+      halves_right k v =
           ap₂ (λ (x y : ℕ). x + y) (w.rows levels (2 * k) (omega arith) (range_left v)) (w.rows levels (2 * k + 1) (omega arith) (range_right v))
           ∙ sym (number_halves sums M slots levels k v)
 
-      pub updating-small : M < 2 ^ 30 → (k : ℕ) → first / 2 ≤ k → k < last / 2 + 1 → halves_sum words k < 2 ^ 32
-      updating-small most k from to =
+      pub updating_small : M < 2 ^ 30 → (k : ℕ) → first / 2 ≤ k → k < last / 2 + 1 → halves_sum words k < 2 ^ 32
+      updating_small most k from to =
           let v : IsRange M (suc levels) k = record {
             inside = above;
             from = omega (arith, (up first w.from).from);
             before = omega (arith, (up last w.to).before);
           } in
-          omega (arith, halves-right k v, range_small sums M slots (suc levels) k v, slots_le M)
+          omega (arith, halves_right k v, range_small sums M slots (suc levels) k v, slots_le M)
 
-      pub updating-next : {new : List ℕ} → Filled (halves_sum words) (first / 2) (last / 2 + 1) words new
+      pub updating_next : {new : List ℕ} → Filled (halves_sum words) (first / 2) (last / 2 + 1) words new
           → Updating measure start M slots (suc levels) (first / 2) (last / 2) new
-      updating-next v =
+      updating_next v =
           let low : first / 2 * 2 ≤ first = omega arith in
           let high : last + 1 ≤ (last / 2 + 1) * 2 = omega arith in
           row_filled (up first w.from) (up last w.to) (omega (arith, w.order)) (λ l k h r. w.rows l k (omega arith) r)
           (but_fewer w.others (rw (pow-succ' 2 levels) (omega (arith, mul-le-mul_right (2 ^ levels) low)))
           (rw (pow-succ' 2 levels) (omega (arith, mul-le-mul_right (2 ^ levels) high))))
-          v halves-right
+          v halves_right

@@ -13,8 +13,8 @@ use Rattle.std.proofs.Math.Seq.{take-take, drop-cons}
 use Rattle.base.specs.Lists.{total}
 use Rattle.base.specs.ListLaws.{drop_take, total_append}
 use Rattle.tree_sizes.specs.Sizes.{height, candidates, Fits}
-use Rattle.tree_sizes.specs.SizeLaws.{candidate_below}
-use Rattle.tree_sizes.specs.Fit.{fit, fits_count, fits_halves}
+use Rattle.tree_sizes.proofs.SizeLaws.{candidate_below}
+use Rattle.tree_sizes.proofs.Fit.{fit, fits_count, fits_halves}
 use Rattle.tree_rules.specs.Tree.{Tree, leaf, node, Balanced, Shape}
 use Rattle.tree_counts.specs.Ranges.{Below}
 use Rattle.tree_counts.specs.RangeLaws.{balanced_perfect, below_only, below_halves}
@@ -26,7 +26,7 @@ use Rattle.store_layout.specs.Layout.{lay_counts, lay_out}
 use Rattle.store_layout.specs.Sheet.{IsContents}
 use Rattle.store_layout.specs.Decode.{numbered, shape_of}
 use Rattle.store_layout.specs.Room.{Roomy}
-use Rattle.store_layout.specs.SheetLaws.{shape_of_lay_out}
+use Rattle.store_layout.proofs.SheetLaws.{shape_of_lay_out}
 use Rattle.store_scoring.specs.Scoring.{tally}
 use Rattle.store_tallies.specs.Tallies.{range_tallies, lay_tallies}
 use Rattle.store_sums.specs.Range.{IsRange}
@@ -98,22 +98,22 @@ module _ (counts : List ℕ) where
 
     module _ (list words : List ℕ) where
       -- Each range j below the range k: the counts before it at its depth give the rank of its first entry.
-      tally-below : (levels d k first n : ℕ) (t : Tree) (e j : ℕ) → Fits M levels d n → Balanced M levels d n t
+      tally_below : (levels d k first n : ℕ) (t : Tree) (e j : ℕ) → Fits M levels d n → Balanced M levels d n t
           → (k + 1) * 2 ^ levels ≤ length counts → Holds counts k n t → HoldsTallies list words k first n t → e ≤ levels → Below k e j
           → get_or words j 0 ≡ tally (take (get_or counts j 0) (drop (first + total (take (j - k * 2 ^ e) (drop (k * 2 ^ e) counts))) list))
       unfolding Balanced Holds HoldsTallies total
-      tally-below levels d k first n t zero j fits w room holds tallies h below =
+      tally_below levels d k first n t zero j fits w room holds tallies h below =
           let only : j ≡ k = below_only k j below in
           let none : k - k * 2 ^ 0 ≡ 0 = omega arith in
           rw (only, none, add-zero first, holds_count counts k n t holds) (tallies_count list words k first n t tallies)
-      tally-below zero d k first n leaf (suc e) j fits w room holds tallies h below = absurd (not-suc-le-zero h)
-      tally-below (suc levels) d k first n (node b l r) (suc e) j fits w room holds tallies h below =
+      tally_below zero d k first n leaf (suc e) j fits w room holds tallies h below = absurd (not-suc-le-zero h)
+      tally_below (suc levels) d k first n (node b l r) (suc e) j fits w room holds tallies h below =
           let halves = fits_halves M levels d n fits b w.0 in
           let room-halves : (k + 1) * (2 * 2 ^ levels) ≤ length counts = rw (pow-succ' 2 levels) at room in
           let start : k * 2 ^ suc e ≡ 2 * k * 2 ^ e = rw (pow-succ' 2 e) (omega arith) in
           ⊎_elim
           (λ (u : Below (2 * k) e j).
-          rw start (tally-below levels (suc d) (2 * k) first b l e j halves.0 w.1 (omega arith) holds.1 tallies.1 (omega arith) u))
+          rw start (tally_below levels (suc d) (2 * k) first b l e j halves.0 w.1 (omega arith) holds.1 tallies.1 (omega arith) u))
           (λ (u : Below (2 * k + 1) e j).
           let i = j - (2 * k + 1) * 2 ^ e in
           let left = depth_total levels (suc d) (2 * k) b l e halves.0 w.1 (omega arith) holds.1 (omega arith) in
@@ -121,10 +121,10 @@ module _ (counts : List ℕ) where
           let between = total (take i (drop ((2 * k + 1) * 2 ^ e) counts)) in
           let rank : first + (b + between) ≡ first + b + between = omega arith in
           rw (behind, depth_split k e i, left, rank)
-          (tally-below levels (suc d) (2 * k + 1) (first + b) (n - b) r e j halves.1 w.2 (omega arith) holds.2 tallies.2 (omega arith) u))
+          (tally_below levels (suc d) (2 * k + 1) (first + b) (n - b) r e j halves.1 w.2 (omega arith) holds.2 tallies.2 (omega arith) u))
           (below_halves k e j below)
-      tally-below zero d k first n (node b l r) (suc e) j fits w room holds tallies h below = elim w [ ]
-      tally-below (suc levels) d k first n leaf (suc e) j fits w room holds tallies h below = elim w [ ]
+      tally_below zero d k first n (node b l r) (suc e) j fits w room holds tallies h below = elim w [ ]
+      tally_below (suc levels) d k first n leaf (suc e) j fits w room holds tallies h below = elim w [ ]
 
 module _ (cap : Capacity) (roomy : Roomy cap) (list : List ℕ) (s : Shape) (w : IsContents cap list s) where
   -- The tallies hold from the root on, which has all entries.
@@ -146,7 +146,7 @@ module _ (cap : Capacity) (roomy : Roomy cap) (list : List ℕ) (s : Shape) (w :
       let counts = shape_counts cap.counts N s in
       let fits : 2 * 2 ^ height M ≤ cap.counts = roomy.counts_fit N M w.room w.shape.allowed in
       let perfect = balanced_perfect M (height M) 0 N s.tree w.shape.balanced in
-      tally-below counts M list (range_tallies cap.counts list s) (height M) 0 1 0 N s.tree d k (fit N M w.shape.allowed)
+      tally_below counts M list (range_tallies cap.counts list s) (height M) 0 1 0 N s.tree d k (fit N M w.shape.allowed)
       w.shape.balanced (omega (arith, length_shape_counts cap.counts N s)) (shape_counts_holds (height M) cap.counts N s perfect fits)
       tallies_hold (omega arith) (range_below M levels k range)
       ∙ rw (one-mul (2 ^ d), zero-add (total (take (k - 2 ^ d) (drop (2 ^ d) counts))))

@@ -9,7 +9,7 @@ use Rattle.tree_counts.specs.Counts.{write_tree, Holds, shape_counts}
 use Rattle.tree_counts.specs.RangeLaws.{balanced_perfect}
 use Rattle.tree_counts.specs.ShapeCountLaws.{length_shape_counts, shape_counts_holds, shape_counts_size, shape_counts_unused}
 use Rattle.store_order.specs.CountOrder.{number_order}
-use Rattle.store_order.specs.CountOrderLaws.{length_count_order, number_count}
+use Rattle.store_order.proofs.CountOrderLaws.{length_count_order, number_count}
 use Rattle.store_layout.specs.declared.Capacity.{Capacity}
 use Rattle.store_layout.specs.Layout.{lay_out, lay_counts}
 use Rattle.store_layout.specs.Sheet.{IsContents}

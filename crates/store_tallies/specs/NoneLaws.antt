@@ -5,15 +5,15 @@ use Rattle.std.proofs.Math.ListN.{length}
 use Rattle.std.proofs.Math.Pow.{pow_pos}
 use Rattle.std.proofs.Math.Seq.{set_split}
 use Rattle.tree_sizes.specs.Sizes.{height, candidates, Fits}
-use Rattle.tree_sizes.specs.SizeLaws.{candidate_below}
-use Rattle.tree_sizes.specs.Fit.{fit, fits_count, fits_halves}
+use Rattle.tree_sizes.proofs.SizeLaws.{candidate_below}
+use Rattle.tree_sizes.proofs.Fit.{fit, fits_count, fits_halves}
 use Rattle.tree_rules.specs.Tree.{Tree, leaf, node, Balanced, Shape}
 use Rattle.tree_counts.specs.Counts.{write_tree, shape_counts}
 use Rattle.tree_counts.specs.RangeLaws.{below_least}
 use Rattle.tree_counts.specs.CountLaws.{write_set}
 use Rattle.tree_counts.specs.ShapeCountLaws.{length_shape_counts}
 use Rattle.store_order.specs.CountOrder.{range_at, count_place, count_order}
-use Rattle.store_order.specs.CountOrderLaws.{count_order_lem, range_order, length_count_order, get_d_count_order}
+use Rattle.store_order.proofs.CountOrderLaws.{count_order_lem, range_order, length_count_order, get_d_count_order}
 use Rattle.store_layout.specs.declared.Capacity.{Capacity}
 use Rattle.store_layout.specs.Layout.{lay_counts}
 use Rattle.store_layout.specs.Sheet.{IsContents}

@@ -5,7 +5,7 @@ use Rattle.std.proofs.Common.{ap, ◌∙◌, length-drop, take-append-drop, drop
 use Rattle.base.specs.Lists.{Every, total}
 use Rattle.base.specs.BoolLaws.{and_both, tests_agree}
 use Rattle.tree_sizes.specs.Sizes.{height, leaf_slots, slots}
-use Rattle.tree_sizes.specs.Fit.{fit}
+use Rattle.tree_sizes.proofs.Fit.{fit}
 use Rattle.tree_rules.specs.Tree.{Tree, Shape, IsShape}
 use Rattle.tree_counts.specs.Counts.{read_tree, shape_counts, shape_in, Holds}
 use Rattle.tree_counts.specs.RangeLaws.{balanced_perfect}
@@ -20,11 +20,11 @@ use Rattle.store_layout.specs.Decode.{numbered, sheet_test}
 use Rattle.store_layout.specs.Room.{Roomy}
 use Rattle.store_zeros.specs.AllZero.{all_zero}
 use Rattle.store_test.specs.Check.{tree_test, counts_test, slots_test, store_test}
-use Rattle.store_layout.specs.LeafLaws.{nonzero_positive}
-use Rattle.store_layout.specs.LayoutLaws.{length_leaf_counts, holds_leaves, leaf_counts_total, leaf_counts_fit, length_lay_leaves}
-use Rattle.store_order.specs.CountOrderLaws.{count_order_size}
+use Rattle.store_layout.proofs.LeafLaws.{nonzero_positive}
+use Rattle.store_layout.proofs.LayoutLaws.{length_leaf_counts, holds_leaves, leaf_counts_total, leaf_counts_fit, length_lay_leaves}
+use Rattle.store_order.proofs.CountOrderLaws.{count_order_size}
 use Rattle.store_layout.specs.NumberedLaws.{numbered_given}
-use Rattle.store_layout.specs.SheetLaws.{numbered_lay_out, size_lay_out, sheet_test_lem, test_sheet}
+use Rattle.store_layout.proofs.SheetLaws.{numbered_lay_out, size_lay_out, sheet_test_lem, test_sheet}
 use Rattle.store_zeros.specs.ZeroLaws.{zero_behind, zero_behind_test, zero_sound, zero_test}
 use Rattle.store_test.specs.TreeCheck.{tree_sound, tree_test_lem}
 use Rattle.store_leaf_test.specs.Check.{leaves_test}

@@ -7,8 +7,8 @@ use native.Mathlib.Omega.{arith}
 use borrow.Author.Tests.{eq-eqb, eqb-true, le-leb, leb-true, lt-ltb, ltb-true}
 use Rattle.base.specs.BoolLaws.{and_both, and_assoc, and_true, tests_agree, true_or_false}
 use Rattle.tree_sizes.specs.Sizes.{ceil_div, candidates, half_candidates, window_start, Fits}
-use Rattle.tree_sizes.specs.SizeLaws.{ceiling_least, ceil_div_half, step_pos, candidates_are, candidates_half, window_fits}
-use Rattle.tree_sizes.specs.Fit.{fits_count, fits_halves}
+use Rattle.tree_sizes.proofs.SizeLaws.{ceiling_least, ceil_div_half, step_pos, candidates_are, candidates_half, window_fits}
+use Rattle.tree_sizes.proofs.Fit.{fits_count, fits_halves}
 use Rattle.store_test.specs.Ready.{LevelTestReady, TreeTestReady}
 use Rattle.store_test.specs.Check.{range_test, tree_test, sums_test, ranges_test, levels_test}
 use Rattle.store_test.specs.TreeCheck.{range_sound, range_test_lem}
@@ -169,16 +169,16 @@ module _ {counts : List ℕ} {M h : ℕ} (ready : TreeTestReady counts M h) wher
           let below : h - (levels - 1) ≡ suc (h - levels) = omega (arith, w.inside) in
           rw (below, pow-succ' 2 (h - levels), w.first_is)
 
-      pub level-ready : LevelTestReady counts c first
-      level-ready = record {
+      pub level_ready : LevelTestReady counts c first
+      level_ready = record {
         room = omega (arith, doubled, pow_mono {i = h - (levels - 1)} {j = h} (omega arith), ready.room);
         small = omega (arith, w.few, candidates_most M 0, ready.most);
       }
 
-      pub levels-next : {level : Bool} {half : ℕ} → level ≡ ranges_test counts c first first → half ≡ half_candidates c
+      pub levels_next : {level : Bool} {half : ℕ} → level ≡ ranges_test counts c first first → half ≡ half_candidates c
           → LevelsLeft counts M h (so_far && level) half (2 * first) (levels - 1)
       unfolding levels_test
-      levels-next {level} {half} level-is half_is =
+      levels_next {level} {half} level-is half_is =
           let more : levels ≡ suc (levels - 1) = omega arith in
           let here : levels_test counts c levels first first ≡ (level && levels_test counts half (levels - 1) (2 * first) (2 * first))
           = ap (λ (l : ℕ). levels_test counts c l first first) more ∙ rw (level-is, half_is) in record {

@@ -6,8 +6,8 @@ use Rattle.std.proofs.Common.{◌∙◌, ⊎_elim, pow_pos, arith, le-leb}
 use Rattle.std.proofs.lemmas.Bool.{lt-leb}
 use Rattle.base.specs.CaseLaws.{le_or_gt}
 use Rattle.tree_sizes.specs.Sizes.{Allowed, height, leaf_slots, slots}
-use Rattle.tree_sizes.specs.SizeLaws.{leaf_slots_most, height_most, height_small}
-use Rattle.tree_sizes.specs.Fit.{fit}
+use Rattle.tree_sizes.proofs.SizeLaws.{leaf_slots_most, height_most, height_small}
+use Rattle.tree_sizes.proofs.Fit.{fit}
 use Rattle.tree_counts.specs.Counts.{shape_in}
 use Rattle.store_layout.specs.declared.Capacity.{Capacity}
 use Rattle.store_order.specs.CountOrder.{count_order}
@@ -77,11 +77,11 @@ module _ {entries : ℕ} {counts : List ℕ} (ready : CountsTestReady entries co
           test_is w.m_is w.n_is
           ∙ rw (le-leb n entries w.few, le-leb n m w.least, le-leb m (2 * n - 1) w.most, ← w.h_is, ← t-is)
 
-      pub counts-tree : t ≡ false → counts_test entries counts ≡ false
-      counts-tree e = tree_is ∙ rw e
+      pub counts_tree : t ≡ false → counts_test entries counts ≡ false
+      counts_tree e = tree_is ∙ rw e
 
-      pub counts-rest : t ≡ true → {p : ℕ} → p ≡ 2 ^ h → {z : Bool} → z ≡ all_zero (drop (2 * p) counts) → counts_test entries counts ≡ z
-      counts-rest e p_is z-is = tree_is ∙ rw (e, z-is, p_is)
+      pub counts_rest : t ≡ true → {p : ℕ} → p ≡ 2 ^ h → {z : Bool} → z ≡ all_zero (drop (2 * p) counts) → counts_test entries counts ≡ z
+      counts_rest e p_is z-is = tree_is ∙ rw (e, z-is, p_is)
 
 -- ---- the slots
 
@@ -117,11 +117,11 @@ module _ {all counts : List ℕ} (ready : SlotsTestReady all counts) where
       unfolding slots_test slots
       leaves_are = rw (l-is, w.p_is, w.s_is, w.h_is, w.m_is)
 
-      pub slots-broken : l ≡ false → slots_test all counts ≡ false
-      slots-broken e = leaves_are ∙ rw e
+      pub slots_broken : l ≡ false → slots_test all counts ≡ false
+      slots_broken e = leaves_are ∙ rw e
 
-      pub slots-rest : l ≡ true → {z : Bool} → z ≡ all_zero (drop (s * p) all) → slots_test all counts ≡ z
-      slots-rest e z-is = leaves_are ∙ rw (e, z-is)
+      pub slots_rest : l ≡ true → {z : Bool} → z ≡ all_zero (drop (s * p) all) → slots_test all counts ≡ z
+      slots_rest e z-is = leaves_are ∙ rw (e, z-is)
 
 -- ---- the store
 

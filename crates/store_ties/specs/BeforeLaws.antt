@@ -3,7 +3,7 @@ use Rattle.std.specs.Prelude.{true, false, ◌&&◌, ◌≡◌, ℕ, suc, ◌+�
 use Rattle.std.proofs.Common.{sym, ◌∙◌, ap, add-one, take-append-drop, drop-cons}
 use mathlib.Core.List.{List, [], ◌∷◌, ◌++◌, append-nil}
 use Rattle.store_layout.specs.Leaf.{nonzero}
-use Rattle.store_layout.specs.LeafLaws.{nonzero_append, nonzero_zero, nonzero_entry, entries_next}
+use Rattle.store_layout.proofs.LeafLaws.{nonzero_append, nonzero_zero, nonzero_entry, entries_next}
 use Rattle.store_scoring.specs.Scoring.{retired_bit, tally}
 use Rattle.store_ties.specs.Ties.{tie_bit}
 use Rattle.store_ties.specs.Steps.{entries_before, InSlot, end_tied}
@@ -30,16 +30,16 @@ module _ (slots : List ℕ) (i : ℕ) where
 
     -- a retired boat
     module _ (is : retired_bit (get_or slots i 0) ≡ true) where
-      pub tally-next-retired : tally (entries_before slots (i + 1)) ≡ tally (entries_before slots i)
-      tally-next-retired = ap tally next_entry ∙ tally_last_retired (entries_before slots i) (get_or slots i 0) is
+      pub tally_next_retired : tally (entries_before slots (i + 1)) ≡ tally (entries_before slots i)
+      tally_next_retired = ap tally next_entry ∙ tally_last_retired (entries_before slots i) (get_or slots i 0) is
 
-      pub end-next-retired : end_tied true (entries_before slots (i + 1)) ≡ (end_tied true (entries_before slots i) && tie_bit (get_or slots i 0))
-      end-next-retired = ap (end_tied true) next_entry ∙ end_last_retired (entries_before slots i) (get_or slots i 0) is
+      pub end_next_retired : end_tied true (entries_before slots (i + 1)) ≡ (end_tied true (entries_before slots i) && tie_bit (get_or slots i 0))
+      end_next_retired = ap (end_tied true) next_entry ∙ end_last_retired (entries_before slots i) (get_or slots i 0) is
 
     -- a scoring boat
     module _ (is : retired_bit (get_or slots i 0) ≡ false) where
-      pub tally-next-scoring : tally (entries_before slots (i + 1)) ≡ tally (entries_before slots i) + 1
-      tally-next-scoring = ap tally next_entry ∙ tally_last_scoring (entries_before slots i) (get_or slots i 0) is
+      pub tally_next_scoring : tally (entries_before slots (i + 1)) ≡ tally (entries_before slots i) + 1
+      tally_next_scoring = ap tally next_entry ∙ tally_last_scoring (entries_before slots i) (get_or slots i 0) is
 
-      pub end-next-scoring : end_tied true (entries_before slots (i + 1)) ≡ true
-      end-next-scoring = ap (end_tied true) next_entry ∙ end_last_scoring (entries_before slots i) (get_or slots i 0) is
+      pub end_next_scoring : end_tied true (entries_before slots (i + 1)) ≡ true
+      end_next_scoring = ap (end_tied true) next_entry ∙ end_last_scoring (entries_before slots i) (get_or slots i 0) is

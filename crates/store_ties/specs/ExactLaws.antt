@@ -27,21 +27,21 @@ module _ (list : List ℕ) where
 
   module _ (i : ℕ) (below : i < length list) where
     module _ (is : retired_bit (get_or list i 0) ≡ true) where
-      tally-past-retired : tally (take (suc i) list) ≡ tally (take i list)
-      tally-past-retired = ap tally (take-suc list i 0 below) ∙ tally_last_retired (take i list) (get_or list i 0) is
+      tally_past_retired : tally (take (suc i) list) ≡ tally (take i list)
+      tally_past_retired = ap tally (take-suc list i 0 below) ∙ tally_last_retired (take i list) (get_or list i 0) is
 
-      end-past-retired : end_tied true (take (suc i) list) ≡ (end_tied true (take i list) && tie_bit (get_or list i 0))
-      end-past-retired = ap (end_tied true) (take-suc list i 0 below) ∙ end_last_retired (take i list) (get_or list i 0) is
+      end_past_retired : end_tied true (take (suc i) list) ≡ (end_tied true (take i list) && tie_bit (get_or list i 0))
+      end_past_retired = ap (end_tied true) (take-suc list i 0 below) ∙ end_last_retired (take i list) (get_or list i 0) is
 
     module _ (is : retired_bit (get_or list i 0) ≡ false) where
-      tally-past-scoring : tally (take (suc i) list) ≡ tally (take i list) + 1
-      tally-past-scoring = ap tally (take-suc list i 0 below) ∙ tally_last_scoring (take i list) (get_or list i 0) is
+      tally_past_scoring : tally (take (suc i) list) ≡ tally (take i list) + 1
+      tally_past_scoring = ap tally (take-suc list i 0 below) ∙ tally_last_scoring (take i list) (get_or list i 0) is
 
-      end-past-scoring : end_tied true (take (suc i) list) ≡ true
-      end-past-scoring = ap (end_tied true) (take-suc list i 0 below) ∙ end_last_scoring (take i list) (get_or list i 0) is
+      end_past_scoring : end_tied true (take (suc i) list) ≡ true
+      end_past_scoring = ap (end_tied true) (take-suc list i 0 below) ∙ end_last_scoring (take i list) (get_or list i 0) is
 
-      tied-rank : tied_in list (tally (take i list)) ≡ (end_tied true (take i list) && tie_bit (get_or list i 0))
-      tied-rank =
+      tied_rank : tied_in list (tally (take i list)) ≡ (end_tied true (take i list) && tie_bit (get_or list i 0))
+      tied_rank =
           ap (λ (xs : List ℕ). tied_in xs (tally (take i list))) (split_at list i 0 below)
           ∙ tied_scoring (take i list) (get_or list i 0) is (drop (suc i) list)
 
@@ -60,7 +60,7 @@ module _ (list : List ℕ) where
   end_bear zero most is j less run = absurd (omega arith)
   end_bear (suc i) most is j less run =
       let retired = run i (omega arith) (omega arith) in
-      let both = and_both (end_tied true (take i list)) (tie_bit (get_or list i 0)) (sym (end-past-retired i most retired) ∙ is) in
+      let both = and_both (end_tied true (take i list)) (tie_bit (get_or list i 0)) (sym (end_past_retired i most retired) ∙ is) in
       ⊎_elim
       (λ (before : j < i). end_bear i (omega arith) both.0 j before (λ k above below. run k above (omega arith)))
       (λ (least : i ≤ j). let here : j ≡ i = omega arith in rw here both.1)
@@ -75,15 +75,15 @@ module _ (list : List ℕ) where
       let earlier : Bear i = λ j less run. w j (omega arith) (λ k above below.
       ⊎_elim (λ (before : k < i). run k above before) (λ (least : i ≤ k). let here : k ≡ i = omega arith in rw here is) (lt_or_ge k i)) in
       let last : tie_bit (get_or list i 0) ≡ true = w i (omega arith) (λ k above below. let here : k ≡ i = omega arith in rw here is) in
-      end-past-retired i most is ∙ rw (bear_end i (omega arith) earlier, last))
-      (λ is. end-past-scoring i most is)
+      end_past_retired i most is ∙ rw (bear_end i (omega arith) earlier, last))
+      (λ is. end_past_scoring i most is)
 
   module _ (i : ℕ) (below : i < length list) (is : retired_bit (get_or list i 0) ≡ false) where
     -- A scoring boat ties with the scoring boat before her exactly when she and every retired boat between them bear bit 63.
     pub ties_exactly : (tied_in list (tally (take i list)) ≡ true) ↔ TiesBack list i
     ties_exactly = (
       (λ tied j most run.
-          let both = and_both (end_tied true (take i list)) (tie_bit (get_or list i 0)) (sym (tied-rank i below is) ∙ tied) in
+          let both = and_both (end_tied true (take i list)) (tie_bit (get_or list i 0)) (sym (tied_rank i below is) ∙ tied) in
           ⊎_elim
           (λ (before : j < i). end_bear i (omega arith) both.0 j before run)
           (λ (least : i ≤ j). let here : j ≡ i = omega arith in rw here both.1)
@@ -91,7 +91,7 @@ module _ (list : List ℕ) where
       (λ back.
           let bear : end_tied true (take i list) ≡ true = bear_end i (omega arith) (λ j less run. back j (omega arith) run) in
           let own : tie_bit (get_or list i 0) ≡ true = back i (omega arith) (λ k above less. absurd (omega arith)) in
-          tied-rank i below is ∙ rw (bear, own)),
+          tied_rank i below is ∙ rw (bear, own)),
     )
 
   -- ---- places
@@ -105,14 +105,14 @@ module _ (list : List ℕ) where
       let earlier : q < tally (take i list) → (f : ℕ) × (f < suc i) × (retired_bit (get_or list f 0) ≡ false) × (tally (take f list) ≡ q)
       = λ more. let w = scoring_rank i q (omega arith) more in (w.0, omega (arith, w.1), w.2, w.3) in
       by_boat (get_or list i 0)
-      (λ is. earlier (omega (arith, less, tally-past-retired i most is)))
-      (λ is. ⊎_elim earlier (λ (least : tally (take i list) ≤ q). (i, omega arith, is, omega (arith, less, tally-past-scoring i most is)))
+      (λ is. earlier (omega (arith, less, tally_past_retired i most is)))
+      (λ is. ⊎_elim earlier (λ (least : tally (take i list) ≤ q). (i, omega arith, is, omega (arith, less, tally_past_scoring i most is)))
       (lt_or_ge q (tally (take i list))))
 
   module _ (i : ℕ) (below : i < length list) where
     module _ (is : retired_bit (get_or list i 0) ≡ false) where
-      pub scoring-below : tally (take i list) < tally list
-      scoring-below =
+      pub scoring_below : tally (take i list) < tally list
+      scoring_below =
           omega (
             arith,
             ap tally (split_at list i 0 below),
@@ -125,7 +125,7 @@ module _ (list : List ℕ) where
       unfolding placing_of placing
       place_counted =
           let low = first_most (tied_in list) (tally (take i list)) in
-          let past = tally-past-scoring i below is in
+          let past = tally_past_scoring i below is in
           let w = scoring_rank (suc i) (group_first (tied_in list) (tally (take i list))) below (omega (arith, low, past)) in (
             w.0,
             record { order = omega (arith, w.1); scoring = w.2; first = sym w.3 },
@@ -147,7 +147,7 @@ module _ (list : List ℕ) where
             let number = tally (take i list) in
             let first = group_first (tied_in list) number in
             let end = group_end (tied_in list) N number in
-            let inside = scoring-below is in
+            let inside = scoring_below is in
             let few = tally_most list in
             let low = first_most (tied_in list) number in
             let above = end_above (tied_in list) N number in

@@ -11,7 +11,7 @@ use Rattle.store_ties.specs.Ties.{tied_in, no_place, placing_in}
 use Rattle.store_ties.specs.Steps.{entries_before, InSlot, Scores}
 use Rattle.store_ties.specs.BeforeLaws.{parted, parted_entry}
 use Rattle.store_ties.specs.PlacingLaws.{retired_placing, scoring_placing}
-use Rattle.store_ties.specs.ExactLaws.{scoring-below}
+use Rattle.store_ties.specs.ExactLaws.{scoring_below}
 
 module _ {slots : List ℕ} {slot : ℕ} (w : InSlot slots slot) where
   rank_entry : get_or (nonzero slots) (length (entries_before slots slot)) 0 ≡ get_or slots slot 0
@@ -32,7 +32,7 @@ module _ {slots : List ℕ} {slot before : ℕ} (w : Scores slots slot before) w
       ∙ ap tally (sym (ap (take (length (entries_before slots slot))) (parted slots slot) ∙ take-append_seam (entries_before slots slot) (nonzero (drop slot slots))))
 
   pub scores_below : before < tally (nonzero slots)
-  scores_below = rw rank_number (scoring-below (nonzero slots) (length (entries_before slots slot)) inside rank_scoring)
+  scores_below = rw rank_number (scoring_below (nonzero slots) (length (entries_before slots slot)) inside rank_scoring)
     where
       inside : length (entries_before slots slot) < length (nonzero slots)
       inside =

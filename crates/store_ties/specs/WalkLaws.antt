@@ -4,14 +4,14 @@ use Rattle.std.proofs.Common.{sym, ◌∙◌, ap, length-drop}
 use Prim.Native.Nat.{ℕ, zero, suc, ◌+◌, ◌-◌, ◌≤◌, ◌<◌}
 use native.Mathlib.Omega.{arith}
 use Rattle.store_layout.specs.Leaf.{nonzero}
-use Rattle.store_layout.specs.LeafLaws.{nonzero_length}
+use Rattle.store_layout.proofs.LeafLaws.{nonzero_length}
 use Rattle.store_scoring.specs.Scoring.{retired_bit, tally}
 use Rattle.store_scoring.specs.ScoringLaws.{tally_append, tally_most, tally_slots}
 use Rattle.store_ties.specs.Ties.{tie_bit, tied_in}
 use Rattle.store_ties.specs.Steps.{entries_before, InSlot, Scores, end_tied, Passed, Back, On}
 use Rattle.store_ties.specs.Groups.{group_end}
 use Rattle.store_ties.specs.StepLaws.{first_start, back_boat, end_next, end_tied_lem, end_untied}
-use Rattle.store_ties.specs.BeforeLaws.{parted, next_empty, tally-next-retired, tally-next-scoring, end-next-retired, end-next-scoring, parted_entry}
+use Rattle.store_ties.specs.BeforeLaws.{parted, next_empty, tally_next_retired, tally_next_scoring, end_next_retired, end_next_scoring, parted_entry}
 use Rattle.store_ties.specs.TiesLaws.{tied_scoring, tied_none}
 
 -- Both ways start behind the slot of a scoring boat.
@@ -22,11 +22,11 @@ module _ {slots : List ℕ} {slot i : ℕ} (w : Scores slots slot i) where
   passed_start : Passed slots (slot + 1) (i + 1)
   passed_start = record {
     inside = omega (arith, w.boat.inside);
-    scoring = omega (arith, tally-next-scoring slots slot w.boat w.scoring, w.number);
+    scoring = omega (arith, tally_next_scoring slots slot w.boat w.scoring, w.number);
   }
 
   behind : end_tied true (entries_before slots (slot + 1)) ≡ true
-  behind = end-next-scoring slots slot w.boat w.scoring
+  behind = end_next_scoring slots slot w.boat w.scoring
 
   pub back_start : Back slots i (slot + 1) (i + 1) (end_tied true (entries_before slots (slot + 1)))
   back_start = record { passed = passed_start; first = rw behind first_start }
@@ -68,19 +68,19 @@ module _ {slots : List ℕ} where
       boat : InSlot slots at
       boat = record { inside = inside; entry = entry }
 
-      pub back-retired : retired_bit (get_or slots at 0) ≡ true → Back slots i at k (end_tied true (entries_before slots at) && tie_bit (get_or slots at 0))
-      back-retired is = record {
-        passed = record { inside = omega (arith, inside); scoring = sym (tally-next-retired slots at boat is) ∙ w.passed.scoring };
-        first = rw (end-next-retired slots at boat is) at w.first;
+      pub back_retired : retired_bit (get_or slots at 0) ≡ true → Back slots i at k (end_tied true (entries_before slots at) && tie_bit (get_or slots at 0))
+      back_retired is = record {
+        passed = record { inside = omega (arith, inside); scoring = sym (tally_next_retired slots at boat is) ∙ w.passed.scoring };
+        first = rw (end_next_retired slots at boat is) at w.first;
       }
 
-      pub back-scoring : retired_bit (get_or slots at 0) ≡ false
+      pub back_scoring : retired_bit (get_or slots at 0) ≡ false
           → Back slots i at (k - 1) (end_tied true (entries_before slots at) && tie_bit (get_or slots at 0))
-      back-scoring is =
-          let number : tally (entries_before slots at) ≡ k - 1 = omega (arith, tally-next-scoring slots at boat is, w.passed.scoring) in
+      back_scoring is =
+          let number : tally (entries_before slots at) ≡ k - 1 = omega (arith, tally_next_scoring slots at boat is, w.passed.scoring) in
           record {
             passed = record { inside = omega (arith, inside); scoring = number };
-            first = rw (← tied_slot boat is, number) (back_boat (rw (end-next-scoring slots at boat is) at w.first));
+            first = rw (← tied_slot boat is, number) (back_boat (rw (end_next_scoring slots at boat is) at w.first));
           }
 
 -- ---- on
@@ -110,26 +110,26 @@ module _ {slots : List ℕ} {N i at k : ℕ} (w : On slots N i at k) where
         }
 
     module _ (entry : 0 < get_or slots at 0) where
-      on-boat : InSlot slots at
-      on-boat = record { inside = inside; entry = entry }
+      on_boat : InSlot slots at
+      on_boat = record { inside = inside; entry = entry }
 
-      pub on-untied : tie_bit (get_or slots at 0) ≡ false → k ≡ group_end (tied_in (nonzero slots)) N i
-      on-untied none = end_untied w.end (ap (tied_in (nonzero slots)) (sym w.passed.scoring) ∙ untied_slot on-boat none)
+      pub on_untied : tie_bit (get_or slots at 0) ≡ false → k ≡ group_end (tied_in (nonzero slots)) N i
+      on_untied none = end_untied w.end (ap (tied_in (nonzero slots)) (sym w.passed.scoring) ∙ untied_slot on_boat none)
 
       module _ (bit : tie_bit (get_or slots at 0) ≡ true) where
-        pub on-retired : retired_bit (get_or slots at 0) ≡ true → On slots N i (at + 1) k
-        on-retired is = record {
-          passed = record { inside = omega arith; scoring = tally-next-retired slots at on-boat is ∙ w.passed.scoring };
-          tied = end-next-retired slots at on-boat is ∙ rw (w.tied, bit);
+        pub on_retired : retired_bit (get_or slots at 0) ≡ true → On slots N i (at + 1) k
+        on_retired is = record {
+          passed = record { inside = omega arith; scoring = tally_next_retired slots at on_boat is ∙ w.passed.scoring };
+          tied = end_next_retired slots at on_boat is ∙ rw (w.tied, bit);
           end = w.end;
         }
 
-        pub on-scoring : retired_bit (get_or slots at 0) ≡ false → k < N → On slots N i (at + 1) (k + 1)
-        on-scoring is more =
+        pub on_scoring : retired_bit (get_or slots at 0) ≡ false → k < N → On slots N i (at + 1) (k + 1)
+        on_scoring is more =
             let ties : tied_in (nonzero slots) k ≡ true
-            = ap (tied_in (nonzero slots)) (sym w.passed.scoring) ∙ tied_slot on-boat is ∙ rw (w.tied, bit) in
+            = ap (tied_in (nonzero slots)) (sym w.passed.scoring) ∙ tied_slot on_boat is ∙ rw (w.tied, bit) in
             record {
-              passed = record { inside = omega arith; scoring = tally-next-scoring slots at on-boat is ∙ rw w.passed.scoring };
-              tied = end-next-scoring slots at on-boat is;
+              passed = record { inside = omega arith; scoring = tally_next_scoring slots at on_boat is ∙ rw w.passed.scoring };
+              tied = end_next_scoring slots at on_boat is;
               end = end_tied_lem w.end ties more;
             }

@@ -11,7 +11,7 @@ use Rattle.store_layout.specs.Room.{CapacityReady}
 use Rattle.store_layout.specs.Layout.{lay_slots, lay_out}
 use Rattle.store_layout.specs.Decode.{Contents}
 use Rattle.store_layout.specs.Sheet.{IsContents}
-use Rattle.store_layout.specs.SheetLaws.{size_lay_out}
+use Rattle.store_layout.proofs.SheetLaws.{size_lay_out}
 use Rattle.store_part.specs.Plan.{part_from, part_length, first_leaf, last_leaf}
 use Rattle.store_balance.specs.BalanceIn.{balance_in}
 use Rattle.store_balance.specs.BalanceInLaws.{balance_laid}
@@ -24,10 +24,10 @@ use Rattle.call_outcomes.specs.Causes.{accept, store_decision, looked_at, argume
 use Rattle.call_outcomes.specs.Outcome.{outcome}
 use Rattle.call_outcomes.specs.DecisionLaws.{accepted, accepted_by}
 use Rattle.call_outcomes.specs.PlainCalls.{plain_change, change_cause, edit_of, plain_calls, changing}
-use Rattle.call_outcomes.specs.UntalliedLaws.{contents_of_lem}
-use Rattle.call_outcomes.specs.SliceLaws.{SliceHolds, slice_holds, SliceChanged, slice_changed, slice_ended}
+use Rattle.call_outcomes.proofs.UntalliedLaws.{contents_of_lem}
+use Rattle.call_outcomes.proofs.SliceLaws.{SliceHolds, slice_holds, SliceChanged, slice_changed, slice_ended}
 use Rattle.call_outcomes.specs.Plain.{plain_view, plain, PlainStore, plain_store_of, plain_outcome_of}
-use Rattle.call_outcomes.specs.PlainLaws.{plain_lawful}
+use Rattle.call_outcomes.proofs.PlainLaws.{plain_lawful}
 use Rattle.call_change.specs.SheetChangeLaws as changed
 use Rattle.call_timed.specs.Timed.{balance_slice, timed_view, TimedStore, ranked, timed_store_of, timed_outcome_of}
 use Rattle.sheet_change.specs.declared.Made.{Made}
@@ -120,8 +120,8 @@ module _ {cap : Capacity} (ready : CapacityReady cap) {change : Change} {e n m :
           let behind = subst (λ (xs : List ℕ). drop (part_from m' part + part_length m' part) xs ≡ drop (part_from m' part + part_length m' part) slots') slots_before (within.behind other) in
           rw same (sheet_kept cap ready.roomy c.list c.shape contents (rw same at within.inside) (rw same at before) (rw same at behind) held.laid)
 
-      pub balance-ready : BalanceReady m' part slots' balance
-      balance-ready = record {
+      pub balance_ready : BalanceReady m' part slots' balance
+      balance_ready = record {
         most = omega (arith, size', contents'.room, contents'.shape.allowed.most, ready.few);
         room = rw (size', balance_number) (omega (arith, ready.roomy.counts_fit _ _ contents'.room contents'.shape.allowed));
         inside = within.inside;
@@ -129,10 +129,10 @@ module _ {cap : Capacity} (ready : CapacityReady cap) {change : Change} {e n m :
       }
 
       -- With the third slice that the slots give it is the change of the timed sheet.
-      pub timed-made : {balance' : List ℕ} → balance' ≡ balance_in m' (length balance) slots'
+      pub timed_made : {balance' : List ℕ} → balance' ≡ balance_in m' (length balance) slots'
           → timed_outcome_of (Changed after words) slots' counts' tallies' balance' [] ≡ outcome (ranked cap) (changing change e) tape store []
-      timed-made third =
-          left.sliced-outcome _
+      timed_made third =
+          left.sliced_outcome _
           (third
           ∙ ap (λ (k : ℕ). balance_in k (length balance) slots') size'
           ∙ ap (λ (k : ℕ). balance_in shape'.size k slots') balance_number

@@ -10,9 +10,9 @@ use Rattle.call_outcomes.specs.Kind.{clear}
 use Rattle.call_outcomes.specs.Outcome.{outcome}
 use Rattle.call_outcomes.specs.DecisionLaws.{clear_outcome}
 use Rattle.call_outcomes.specs.Plain.{PlainStore}
-use Rattle.call_outcomes.specs.PlainLaws.{plain_right}
+use Rattle.call_outcomes.proofs.PlainLaws.{plain_right}
 use Rattle.call_timed.specs.Timed.{timed_view, timed, timed_store_of, timed_outcome_of}
-use Rattle.call_timed.specs.TimedLaws.{right_timed}
+use Rattle.call_timed.proofs.TimedLaws.{right_timed}
 use Rattle.sheet_answers.specs.ClearLaws.{zeroed, clear_laid}
 
 module _ (cap : Capacity) (slots counts tallies balance : List ℕ) where

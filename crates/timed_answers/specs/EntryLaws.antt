@@ -28,7 +28,7 @@ use Rattle.call_open.specs.declared.Opened.TheVariants as opened
 use Rattle.call_open.specs.Opening.{opened_as, OpenedStore, admitted}
 use Rattle.call_open.specs.AdmittedLaws.{change_opened}
 use Rattle.call_timed.specs.Timed.{TimedStore, timed_view, TimedChange, insert_entry, delete_rank, plainly, timed_change_cause, find_entry, timed_question_cause, found_at, timed_reply, timed_written, timed, TimedCall, ranked, insert, delete, find, timed_store_of, timed_numbers, timed_outcome_of}
-use Rattle.call_timed.specs.RankedLaws.{ranked_decided, timed_change}
+use Rattle.call_timed.proofs.RankedLaws.{ranked_decided, timed_change}
 use Rattle.timed_answers.specs.RankedReady.{RankedReady}
 use Rattle.timed_answers.specs.SheetLaws.{list_is}
 
@@ -107,49 +107,49 @@ module _ {cap : Capacity} (ready : CapacityReady cap) {slots counts tallies bala
       unfolding sought_in
       rank_is = ap (λ (s : Sought). s.rank) is ∙ ap (rank_of (key e)) (sym (list_is ready w))
 
-      present-is : sought.present ≡ present (key e) c.list
+      present_is : sought.present ≡ present (key e) c.list
       unfolding sought_in
-      present-is = ap (λ (s : Sought). s.present) is ∙ ap (present (key e)) (sym (list_is ready w))
+      present_is = ap (λ (s : Sought). s.present) is ∙ ap (present (key e)) (sym (list_is ready w))
 
-      find-decided : decision (timed cap) (find e) sheet ≡ accept c
+      find_decided : decision (timed cap) (find e) sheet ≡ accept c
       unfolding looked_at argument_cause timed_question_cause first_of
-      find-decided = accepted_by (timed cap) (find e) sheet c w.decided (rw (ne_eqb (key e) 0 some_key))
+      find_decided = accepted_by (timed cap) (find e) sheet c w.decided (rw (ne_eqb (key e) 0 some_key))
 
-      pub find-present : sought.present ≡ true
+      pub find_present : sought.present ≡ true
           → timed_outcome_of (Present sought.rank) slots counts tallies balance [] ≡ outcome (timed cap) (find e) [] sheet []
       unfolding timed_reply timed_written found_at
-      find-present there =
-          sym (question_outcome (timed cap) (find_entry e) [] sheet [] c find-decided ∙ rw (← present-is, there, ← rank_is))
+      find_present there =
+          sym (question_outcome (timed cap) (find_entry e) [] sheet [] c find_decided ∙ rw (← present_is, there, ← rank_is))
 
       pub find_absent : sought.present ≡ false
           → timed_outcome_of (Absent sought.rank) slots counts tallies balance [] ≡ outcome (timed cap) (find e) [] sheet []
       unfolding timed_reply timed_written found_at
       find_absent none-there =
-          sym (question_outcome (timed cap) (find_entry e) [] sheet [] c find-decided ∙ rw (← present-is, none-there, ← rank_is))
+          sym (question_outcome (timed cap) (find_entry e) [] sheet [] c find_decided ∙ rw (← present_is, none-there, ← rank_is))
 
       pub insert_present : (tape : List ℕ) → sought.present ≡ true
           → timed_outcome_of (Refused EntryPresent) slots counts tallies balance [] ≡ outcome (timed cap) (insert e) tape sheet []
       unfolding looked_at argument_cause timed_change_cause first_of
       insert_present tape there =
-          arguments_refused (insert e) refl tape EntryPresent (rw (ne_eqb (key e) 0 some_key, ← present-is, there))
+          arguments_refused (insert e) refl tape EntryPresent (rw (ne_eqb (key e) 0 some_key, ← present_is, there))
 
       module _ (none-there : sought.present ≡ false) where
-        pub insert-full : (tape : List ℕ) → cap.entries ≤ n
+        pub insert_full : (tape : List ℕ) → cap.entries ≤ n
             → timed_outcome_of (Refused Full) slots counts tallies balance [] ≡ outcome (timed cap) (insert e) tape sheet []
         unfolding looked_at argument_cause timed_change_cause first_of
-        insert-full tape full =
+        insert_full tape full =
             arguments_refused (insert e) refl tape Full
-            (rw (ne_eqb (key e) 0 some_key, ← present-is, none-there, w.count, le-leb cap.entries n full))
+            (rw (ne_eqb (key e) 0 some_key, ← present_is, none-there, w.count, le-leb cap.entries n full))
 
-        pub insert-decided : n < cap.entries → decision (timed cap) (insert e) sheet ≡ accept c
+        pub insert_decided : n < cap.entries → decision (timed cap) (insert e) sheet ≡ accept c
         unfolding looked_at argument_cause timed_change_cause first_of
-        insert-decided room =
+        insert_decided room =
             accepted_by (timed cap) (insert e) sheet c w.decided
-            (rw (ne_eqb (key e) 0 some_key, ← present-is, none-there, w.count, lt-leb cap.entries n room))
+            (rw (ne_eqb (key e) 0 some_key, ← present_is, none-there, w.count, lt-leb cap.entries n room))
 
-        pub insert-plainly : plainly (insert_entry e) c.list ≡ plain_change (Insert sought.rank) e
+        pub insert_plainly : plainly (insert_entry e) c.list ≡ plain_change (Insert sought.rank) e
         unfolding plainly
-        insert-plainly = rw rank_is
+        insert_plainly = rw rank_is
 
   -- ---- delete
 

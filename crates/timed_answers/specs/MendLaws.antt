@@ -8,7 +8,7 @@ use Rattle.store_layout.specs.Room.{CapacityReady}
 use Rattle.store_layout.specs.Leaf.{nonzero}
 use Rattle.store_layout.specs.Layout.{lay_out}
 use Rattle.store_layout.specs.Decode.{list_of}
-use Rattle.store_layout.specs.SheetLaws.{list_of_lay_out}
+use Rattle.store_layout.proofs.SheetLaws.{list_of_lay_out}
 use Rattle.store_keys.specs.Key.{rises}
 use Rattle.store_keys.specs.KeyLaws.{rises_true, true_rises}
 use Rattle.store_balance.specs.BalanceIn.{balance_in}
@@ -17,15 +17,15 @@ use Rattle.call_outcomes.specs.declared.Cause.TheVariants.{Lengths, NotMendable}
 use Rattle.call_outcomes.specs.declared.Answer.TheVariants.{Mended, Refused}
 use Rattle.call_outcomes.specs.Outcome.{refused}
 use Rattle.call_outcomes.specs.Untallied.{store_of}
-use Rattle.call_outcomes.specs.UntalliedLaws.{contents_of_lem}
+use Rattle.call_outcomes.proofs.UntalliedLaws.{contents_of_lem}
 use Rattle.call_outcomes.specs.Plain.{PlainStore}
 use Rattle.call_open.specs.Opening.{OpenedSheet}
 use Rattle.call_open.specs.OpenedLaws as opened
 use Rattle.call_timed.specs.Timed.{timed_view, TimedStore, timed_store_of, timed_outcome_of}
-use Rattle.call_timed.specs.TimedLaws.{timed_lawful, right_timed}
+use Rattle.call_timed.proofs.TimedLaws.{timed_lawful, right_timed}
 use Rattle.call_mend.specs.Mending.{Mendable, mended}
 use Rattle.call_mend.specs.Views.{timed_store}
-use Rattle.call_mend.specs.MendingLaws.{mended_lengths, mended-none, mended_made}
+use Rattle.call_mend.proofs.MendingLaws.{mended_lengths, mended_none, mended_made}
 use Rattle.sheet_recount.specs.Recount.{NoSheet, TalliesOf}
 use Rattle.sheet_recount.specs.MendLaws.{same_kept_lem, put_laid, no_kept}
 
@@ -42,7 +42,7 @@ module _ {cap : Capacity} (ready : CapacityReady cap) (slots counts tallies bala
     none_mended : (Mendable (timed_view cap) (timed_store cap) store → ⊥)
         → timed_outcome_of (Refused NotMendable) slots counts tallies balance [] ≡ mended (timed_view cap) (timed_store cap) store
     unfolding refused
-    none_mended none = sym (mended-none ready.roomy (timed_view cap) (timed_store cap) (timed_lawful cap ready.roomy).view store right none)
+    none_mended none = sym (mended_none ready.roomy (timed_view cap) (timed_store cap) (timed_lawful cap ready.roomy).view store right none)
 
     pub mend_none : NoSheet cap slots (get_or counts 0 0)
         → timed_outcome_of (Refused NotMendable) slots counts tallies balance [] ≡ mended (timed_view cap) (timed_store cap) store
@@ -60,9 +60,9 @@ module _ {cap : Capacity} (ready : CapacityReady cap) (slots counts tallies bala
           ∙ sym (opened.front_entries ready w)
 
       -- A list that does not rise.
-      pub mend-fallen : rises (nonzero (take (sizes.slots m) slots)) ≡ false
+      pub mend_fallen : rises (nonzero (take (sizes.slots m) slots)) ≡ false
           → timed_outcome_of (Refused NotMendable) slots counts tallies balance [] ≡ mended (timed_view cap) (timed_store cap) store
-      mend-fallen fallen =
+      mend_fallen fallen =
           none_mended
           (λ v.
           let rising = rises_true 0 v.list v.is_list.rising in
@@ -84,9 +84,9 @@ module _ {cap : Capacity} (ready : CapacityReady cap) (slots counts tallies bala
               same = same_kept_lem ready w counts kept;
             }
 
-        pub mend-made : {counts' tallies' balance' : List ℕ} → counts' ≡ fresh → TalliesOf cap slots fresh tallies' → balance' ≡ balance_in m (length balance) slots
+        pub mend_made : {counts' tallies' balance' : List ℕ} → counts' ≡ fresh → TalliesOf cap slots fresh tallies' → balance' ≡ balance_in m (length balance) slots
             → timed_outcome_of (Mended n) slots counts' tallies' balance' [] ≡ mended (timed_view cap) (timed_store cap) store
-        mend-made counts_are put written =
+        mend_made counts_are put written =
             let c = w.contents in
             let made = mended_made ready.roomy (timed_view cap) (timed_store cap) (timed_lawful cap ready.roomy).view store right found_mendable in
             let number = (right_timed cap store right).balance in

@@ -15,7 +15,7 @@ use Rattle.call_open.specs.AdmittedLaws.{opened_store, plain_sheet}
 use Rattle.call_questions.specs.Asked.{asked, Answers, Readable, Tallied}
 use Rattle.call_questions.specs.AskedLaws as questions
 use Rattle.call_timed.specs.Timed.{timed_view, TimedStore, as_plain, timed, timed_store_of, timed_numbers, timed_outcome_of}
-use Rattle.call_timed.specs.TimedLaws.{timed_as_plain}
+use Rattle.call_timed.proofs.TimedLaws.{timed_as_plain}
 use Rattle.sheet_answers.specs.QuestionLaws.{numbers_tallied}
 use Rattle.timed_open.specs.TimedLook.{TimedOpening}
 use Rattle.timed_answers.specs.SheetLaws.{timed_list, plain_store_lem}

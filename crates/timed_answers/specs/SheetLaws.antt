@@ -8,7 +8,7 @@ use Rattle.store_layout.specs.Layout.{Store, lay_out}
 use Rattle.store_layout.specs.Leaf.{nonzero}
 use Rattle.store_layout.specs.Sheet.{IsContents}
 use Rattle.store_layout.specs.Decode.{Contents, numbered}
-use Rattle.store_layout.specs.SheetLaws.{decode_sound, numbered_lay_out}
+use Rattle.store_layout.proofs.SheetLaws.{decode_sound, numbered_lay_out}
 use Rattle.store_search.specs.Sought.{SearchReady}
 use Rattle.call_outcomes.specs.Causes.{accept, store_decision}
 use Rattle.call_outcomes.specs.Untallied.{store_of}
@@ -16,7 +16,7 @@ use Rattle.call_outcomes.specs.Plain.{plain_view, plain_store_of}
 use Rattle.call_open.specs.Opening.{plain_numbers, OpenedStore}
 use Rattle.call_questions.specs.StartLaws.{decoded_list}
 use Rattle.call_timed.specs.Timed.{timed_view, timed_store_of, timed_numbers}
-use Rattle.call_timed.specs.RankedLaws.{HoldsTimed, timed_holds}
+use Rattle.call_timed.proofs.RankedLaws.{HoldsTimed, timed_holds}
 
 -- The list of a timed store that decides nothing is what stands in its slots.
 pub timed_list : (cap : Capacity) (slots counts tallies balance : List ℕ) (c : Contents) → store_decision (timed_view cap) (timed_store_of slots counts tallies balance) ≡ accept c

@@ -6,13 +6,13 @@ use Rattle.tree_rules.specs.Tree.{Shape, IsShape}
 use Rattle.tree_canonical.specs.ShapeShare.{shape_product}
 use Rattle.call_outcomes.specs.Kind.{Lawful}
 use Rattle.call_outcomes.specs.Clubs.{clubs}
-use Rattle.call_outcomes.specs.ClubsLaws.{clubs_roomy}
+use Rattle.call_outcomes.proofs.ClubsLaws.{clubs_roomy}
 use Rattle.call_history.specs.History.{history, list_at_end, SameTable, Sent, clearing, last_store, NoneEnds, faces_sent, calls_of}
 use Rattle.call_history.specs.Words.{words_of}
-use Rattle.call_history.specs.Independence.{history_independent}
-use Rattle.call_history.specs.Shares.{sheet_share}
+use Rattle.call_history.proofs.Independence.{history_independent}
+use Rattle.call_history.proofs.Shares.{sheet_share}
 use Rattle.call_timed.specs.Timed.{TimedStore, lay_timed, TimedLengths, equal_timed, timed_view, timed, TimedCall}
-use Rattle.call_timed.specs.TimedLaws.{timed_right, timed_lawful}
+use Rattle.call_timed.proofs.TimedLaws.{timed_right, timed_lawful}
 
 pub clubs_timed : Lawful (timed clubs)
 clubs_timed = timed_lawful clubs clubs_roomy

@@ -18,11 +18,11 @@ use Rattle.call_outcomes.specs.Outcome.{refused, outcome}
 use Rattle.call_outcomes.specs.DecisionLaws.{store_decided, outcome_refused}
 use Rattle.call_outcomes.specs.PlainCalls.{place_of, count_of, question_cause, placed, reply_to, edit_of}
 use Rattle.call_outcomes.specs.Slice.{slice_test, found_if, found_with}
-use Rattle.call_outcomes.specs.SliceLaws.{sheet-refused, sheet-accepted}
+use Rattle.call_outcomes.proofs.SliceLaws.{sheet_refused, sheet_accepted}
 use Rattle.call_outcomes.specs.Plain.{plain_view}
-use Rattle.call_outcomes.specs.PlainLaws.{plain_right}
+use Rattle.call_outcomes.proofs.PlainLaws.{plain_right}
 use Rattle.call_outcomes.specs.Clubs.{clubs}
-use Rattle.call_outcomes.specs.ClubsLaws.{clubs_lawful}
+use Rattle.call_outcomes.proofs.ClubsLaws.{clubs_lawful}
 use Rattle.call_history.specs.Refusals.{refused_by}
 use Rattle.call_history.specs.SingleCalls.{answered_by_lem, changed_by_lem}
 use Rattle.call_history.specs.ClubSheets.{ClubSheet, no_sheet_decided}
@@ -48,27 +48,27 @@ module _ (store : TimedStore) (right : TimedLengths clubs store) (tape output : 
   unfolding decision looked_at by_arguments refused
   check_other none_is =
       let plain = no_sheet_decided store.sheet right.plain none_is in
-      rw (outcome_refused (timed clubs) check store tape output NotASheet (rw (sheet-refused (plain_view clubs) (balance_slice clubs) store right.balance NotASheet plain)))
+      rw (outcome_refused (timed clubs) check store tape output NotASheet (rw (sheet_refused (plain_view clubs) (balance_slice clubs) store right.balance NotASheet plain)))
 
   pub check_untimed : (list : List ℕ) → ClubSheet list store.sheet → ((list : List ℕ) → TimedSheet list store → ⊥)
       → (outcome (timed clubs) check tape store output).answer ≡ Refused NotTimed
   unfolding decision looked_at by_found found_with found_if by_arguments refused
   check_untimed list w none_is =
       rw (outcome_refused (timed clubs) check store tape output NotTimed
-      (rw (sheet-accepted (plain_view clubs) (balance_slice clubs) store right.balance c plain_decided) (go (slice_test (balance_slice clubs) store.slice c) refl)))
+      (rw (sheet_accepted (plain_view clubs) (balance_slice clubs) store right.balance c plain_decided) (go (slice_test (balance_slice clubs) store.slice c) refl)))
     where
       c : Contents
       c = record { list = list; shape = w.shape }
 
-      plain-found : (plain_view clubs).decode store.sheet ≡ holds c
-      plain-found = rw w.laid (clubs_lawful.view.complete list w.shape w.is_list w.is_shape)
+      plain_found : (plain_view clubs).decode store.sheet ≡ holds c
+      plain_found = rw w.laid (clubs_lawful.view.complete list w.shape w.is_list w.is_shape)
 
       plain_decided : store_decision (plain_view clubs) store.sheet ≡ accept c
-      plain_decided = store_decided (plain_view clubs) store.sheet c (plain_right clubs store.sheet right.plain) plain-found
+      plain_decided = store_decided (plain_view clubs) store.sheet c (plain_right clubs store.sheet right.plain) plain_found
 
       go : (b : Bool) → slice_test (balance_slice clubs) store.slice c ≡ b
           → by_arguments (argument_cause (timed clubs) check) (by_found (found_if NotTimed (slice_test (balance_slice clubs) store.slice c) c)) ≡ refuse NotTimed
-      go true e = absurd (none_is list (decoded_sheet (timed_view clubs) clubs_timed.view store c (rw (plain-found, e))))
+      go true e = absurd (none_is list (decoded_sheet (timed_view clubs) clubs_timed.view store c (rw (plain_found, e))))
       go false e = rw e
 
 -- ---- find

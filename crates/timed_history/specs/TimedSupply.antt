@@ -9,8 +9,8 @@ use Rattle.call_outcomes.specs.declared.Answer.TheVariants.{Refused}
 use Rattle.call_outcomes.specs.Kind.{clear, change, ask}
 use Rattle.call_outcomes.specs.Causes.{argument_cause}
 use Rattle.call_outcomes.specs.PlainCalls.{change_cause}
-use Rattle.call_history.specs.Supply.{Suppliable, first_other, none_ended}
-use Rattle.call_history.specs.PlainSupply.{plain_suppliable}
+use Rattle.call_history.proofs.Supply.{Suppliable, first_other, none_ended}
+use Rattle.call_history.proofs.PlainSupply.{plain_suppliable}
 use Rattle.call_timed.specs.Timed.{insert_entry, delete_rank, timed_change_cause, TimedQuestion, find_entry, as_plain, timed_question_cause, found_at, timed_reply, timed, TimedCall}
 
 cause_not_ended : {cap : Capacity} → CapacityReady cap → (call : TimedCall) (list : List ℕ) → argument_cause (timed cap) call list ≢ some TapeEnded

@@ -18,7 +18,7 @@ use Rattle.call_open.specs.declared.Opened.TheVariants as opened
 use Rattle.call_open.specs.Opening.{plain_numbers, Opening, OpenedSheet, OpenedStore}
 use Rattle.call_open.specs.OpenedLaws as opening
 use Rattle.call_open.specs.AdmittedLaws.{opened_store, plain_sheet}
-use Rattle.call_open.specs.SliceOpeningLaws.{look_refused, look-not, look-sheet}
+use Rattle.call_open.specs.SliceOpeningLaws.{look_refused, look_not, look_sheet}
 use Rattle.call_timed.specs.Timed.{balance_slice, timed_view, TimedStore, timed_store_of, timed_numbers}
 use Rattle.sheet_open.specs.PlainOpening.{PlainOpening}
 use Rattle.timed_open.specs.TimedLook.{timed_test, timed_by, timed_look, LookReady, TimedOpening}
@@ -68,9 +68,9 @@ module _ {cap : Capacity} (ready : CapacityReady cap) {slots counts tallies work
   by_test : {n m : ℕ} → found ≡ opened.Sheet n m → (b : Bool) → timed_test m slots balance ≡ b → Opening (timed_view cap) timed_numbers store (timed_by b n m) work
   unfolding timed_by
   by_test {n} {m} e true t =
-      look-sheet (plain_view cap) (balance_slice cap) plain_numbers store work number (sheet n m e) (sym (test_is ready (plain_sheet (sheet n m e)) balance number) ∙ t)
+      look_sheet (plain_view cap) (balance_slice cap) plain_numbers store work number (sheet n m e) (sym (test_is ready (plain_sheet (sheet n m e)) balance number) ∙ t)
   by_test {n} {m} e false t =
-      look-not (plain_view cap) (balance_slice cap) plain_numbers store work number (sheet n m e) (sym (test_is ready (plain_sheet (sheet n m e)) balance number) ∙ t)
+      look_not (plain_view cap) (balance_slice cap) plain_numbers store work number (sheet n m e) (sym (test_is ready (plain_sheet (sheet n m e)) balance number) ∙ t)
 
   looks : (o : Opened) → found ≡ o → Opening (timed_view cap) timed_numbers store (timed_look o slots balance) work
   unfolding timed_look

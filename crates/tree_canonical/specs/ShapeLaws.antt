@@ -4,9 +4,9 @@ use Rattle.std.proofs.Common.{arith}
 use Rattle.draw_shares.specs.Program.{Live, Draws, Ends}
 use Rattle.draw_shares.specs.ProgramLaws.{ends_bind, draws_bind, draws_bind_ends, draws_done}
 use Rattle.tree_sizes.specs.Sizes.{Allowed, height}
-use Rattle.tree_sizes.specs.Fit.{fit}
+use Rattle.tree_sizes.proofs.Fit.{fit}
 use Rattle.tree_rules.specs.Tree.{IsShape}
-use Rattle.tree_rules.specs.ShapeLaws.{fresh_ends}
+use Rattle.tree_rules.proofs.ShapeLaws.{fresh_ends}
 use Rattle.tree_rules.specs.Rules.{rebuild, fresh}
 use Rattle.tree_canonical.specs.Canonical.{canonical_size, canonical}
 use Rattle.tree_canonical.specs.VisitLaws.{live_rebuild}

@@ -8,9 +8,9 @@ use Rattle.draw_shares.specs.RationalLaws.{ring, zero_mul, zero_add, add_zero, m
 use Rattle.draw_shares.specs.Same.{sum, mean, expect}
 use Rattle.draw_shares.specs.Sum.{sum_suc, sum_cong, sum_const}
 use Rattle.draw_shares.specs.SameLaws.{expect_bind, expect_cong, expect_mul}
-use Rattle.draw_shares.specs.ShareLaws.{indicator}
+use Rattle.draw_shares.proofs.ShareLaws.{indicator}
 use Rattle.tree_sizes.specs.Sizes.{height, candidates, window_start}
-use Rattle.tree_sizes.specs.SizeLaws.{height_small}
+use Rattle.tree_sizes.proofs.SizeLaws.{height_small}
 use Rattle.tree_rules.specs.Tree.{Tree, leaf, node, Balanced, Shape, IsShape}
 use Rattle.tree_rules.specs.Rules.{join, rebuild, fresh}
 use Rattle.tree_canonical.specs.Canonical.{canonical_size, canonical, candidates_product}

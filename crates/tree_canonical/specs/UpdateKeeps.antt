@@ -5,11 +5,11 @@ use Rattle.draw_shares.specs.ProgramLaws.{done_bind, bind_bind}
 use Rattle.draw_shares.specs.Same.{◌≈◌}
 use Rattle.draw_shares.specs.SameLaws.{≈_sym, ≈_trans, ≈_path, bind_cong_left, bind_cong_right, bind_cong_ends, bind_swap, bind_const}
 use Rattle.tree_sizes.specs.Sizes.{Allowed, height}
-use Rattle.tree_sizes.specs.Fit.{fit}
+use Rattle.tree_sizes.proofs.Fit.{fit}
 use Rattle.tree_rules.specs.declared.Change.{Change}
 use Rattle.tree_rules.specs.Compare.{count_after}
 use Rattle.tree_rules.specs.Tree.{Tree, Shape}
-use Rattle.tree_rules.specs.ShapeLaws.{step_ends}
+use Rattle.tree_rules.proofs.ShapeLaws.{step_ends}
 use Rattle.tree_rules.specs.Rules.{size_after, InReach, rebuild, walk, SizeStep, kept, anew, size_step, fresh, reshape, update}
 use Rattle.tree_canonical.specs.Canonical.{canonical_size, canonical, new_size}
 use Rattle.tree_canonical.specs.SizeKeeps.{size_keeps}

@@ -8,8 +8,8 @@ use Rattle.draw_shares.specs.ProgramLaws.{done_bind, bind_bind, draws_bind, draw
 use Rattle.draw_shares.specs.Same.{◌≈◌}
 use Rattle.draw_shares.specs.SameLaws.{≈_refl, ≈_trans, ≈_sym, ≈_path, bind_cong_left, bind_cong_right, bind_const, bind_swap, draw_cong, draw_commutes}
 use Rattle.tree_sizes.specs.Sizes.{candidates, window_start, Fits}
-use Rattle.tree_sizes.specs.SizeLaws.{candidate_face}
-use Rattle.tree_sizes.specs.Fit.{fits_pos, fits_halves}
+use Rattle.tree_sizes.proofs.SizeLaws.{candidate_face}
+use Rattle.tree_sizes.proofs.Fit.{fits_pos, fits_halves}
 use Rattle.tree_rules.specs.declared.Comparison.{Comparison}
 use Rattle.tree_rules.specs.declared.Comparison.TheVariants.{Unchanged, Swapped}
 use Rattle.tree_rules.specs.Tree.{Tree, node}

@@ -7,13 +7,13 @@ use Rattle.draw_shares.specs.Program.{Program, done, ◌>>=◌}
 use Rattle.draw_shares.specs.Same.{◌≈◌}
 use Rattle.draw_shares.specs.SameLaws.{≈_refl, ≈_trans, ≈_path, bind_cong_right, draw_cong}
 use Rattle.tree_sizes.specs.Sizes.{candidates, window_start, Fits}
-use Rattle.tree_sizes.specs.SizeLaws.{candidate_face, candidate_below}
-use Rattle.tree_sizes.specs.Fit.{fits_pos, fits_count, fits_halves}
+use Rattle.tree_sizes.proofs.SizeLaws.{candidate_face, candidate_below}
+use Rattle.tree_sizes.proofs.Fit.{fits_pos, fits_count, fits_halves}
 use Rattle.tree_rules.specs.declared.Change.{Change}
 use Rattle.tree_rules.specs.Tree.{Tree, leaf}
 use Rattle.tree_rules.specs.Compare.{count_after, compare}
 use Rattle.tree_rules.specs.Moves.{rank_now, GoesOut}
-use Rattle.tree_rules.specs.MoveLaws.{moves, visit_keeps}
+use Rattle.tree_rules.proofs.MoveLaws.{moves, visit_keeps}
 use Rattle.tree_rules.specs.ChangeLaws.{right_reach, right_after, right_now, left_reach, left_count, left_now}
 use Rattle.tree_rules.specs.Rules.{InReach, rebuild, rebuild_halves, rank_of, at_rank, walk_half, walk}
 use Rattle.tree_canonical.specs.VisitLaws.{join_cong, join_left, join_right, live_rebuild, join_visit}

@@ -11,10 +11,10 @@ use Rattle.draw.specs.Draw.{draw_at}
 use Rattle.draw.specs.DrawLaws.{draw_sound}
 use Rattle.draw_shares.specs.Program.{draw}
 use Rattle.draw_shares.specs.Tape.{Ran, ran, ended, run_at, after_run}
-use Rattle.draw_shares.specs.TapeLaws.{run_face, run_ended, run_bind}
+use Rattle.draw_shares.proofs.TapeLaws.{run_face, run_ended, run_bind}
 use Rattle.tree_sizes.specs.Sizes.{candidates, half_candidates, window_start, IsCandidate}
-use Rattle.tree_sizes.specs.SizeLaws.{height_small, height_most, candidates_half, candidate_face, candidate_below}
-use Rattle.tree_sizes.specs.Fit.{fits_count, fits_halves}
+use Rattle.tree_sizes.proofs.SizeLaws.{height_small, height_most, candidates_half, candidate_face, candidate_below}
+use Rattle.tree_sizes.proofs.Fit.{fits_count, fits_halves}
 use Rattle.tree_rules.specs.Tree.{Tree, node}
 use Rattle.tree_rules.specs.Rules.{rebuild, rebuild_halves, join}
 use Rattle.tree_counts.specs.declared.Rebuilt.{Rebuilt}

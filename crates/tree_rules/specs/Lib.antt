@@ -8,8 +8,4 @@ pub mod Swap
 pub mod Moves
 pub mod ChangeLaws
 pub mod ChangeListLaws
-pub mod CompareLaws
-pub mod MoveLaws
-pub mod ShapeLaws
-pub mod DrawBounds
 pub mod Examples

@@ -4,8 +4,8 @@ use Rattle.std.proofs.Common.{◌∙◌, arith, mul-pos, mul-le-mul_right, le-mu
 use Rattle.std.proofs.lemmas.List.{length-map}
 use Rattle.draw_shares.specs.Course.{concat_below}
 use Rattle.tree_sizes.specs.Sizes.{Allowed, Fits, height, candidates, half_candidates, ceil_div, window_start}
-use Rattle.tree_sizes.specs.SizeLaws.{candidates_half, height_small}
-use Rattle.tree_sizes.specs.Fit.{fit, fits_pos}
+use Rattle.tree_sizes.proofs.SizeLaws.{candidates_half, height_small}
+use Rattle.tree_sizes.proofs.Fit.{fit, fits_pos}
 use Rattle.tree_rules.specs.Tree.{Tree, leaf, node, Balanced, Shape, IsShape}
 use Rattle.tree_canonical.specs.Canonical.{candidates_product}
 use Rattle.tree_canonical.specs.ShapeShare.{shape_product}

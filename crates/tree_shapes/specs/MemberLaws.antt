@@ -8,7 +8,7 @@ use Rattle.base.specs.CaseLaws.{lt_or_ge}
 use Rattle.base.specs.ListLaws.{every_get_d}
 use Rattle.draw_shares.specs.Course.{concat_below}
 use Rattle.tree_sizes.specs.Sizes.{Allowed, height, candidates, window_start}
-use Rattle.tree_sizes.specs.SizeLaws.{candidates_half}
+use Rattle.tree_sizes.proofs.SizeLaws.{candidates_half}
 use Rattle.tree_rules.specs.Tree.{Tree, leaf, node, Shape, IsShape}
 use Rattle.tree_shapes.specs.Shapes.{with_halves, trees, shapes_of_size, shape_at, tree_count, shape_count}
 use Rattle.tree_shapes.specs.ShapesLaws.{every_size}

@@ -8,8 +8,8 @@ use Rattle.std.proofs.Math.ListN.{length, get_or}
 use Rattle.base.specs.CaseLaws.{eq_or_ne, le_or_gt, if_eq_yes, if_eq_no}
 use Rattle.draw_shares.specs.Tape.{ran, run_at}
 use Rattle.tree_sizes.specs.Sizes.{Fits, height, candidates}
-use Rattle.tree_sizes.specs.SizeLaws.{height_small}
-use Rattle.tree_sizes.specs.Fit.{fit, fits_pos}
+use Rattle.tree_sizes.proofs.SizeLaws.{height_small}
+use Rattle.tree_sizes.proofs.Fit.{fit, fits_pos}
 use Rattle.tree_rules.specs.Tree.{Tree, leaf, Shape}
 use Rattle.tree_rules.specs.Rules.{rebuild}
 use Rattle.tree_counts.specs.declared.Rebuilt.{Rebuilt}

@@ -5,7 +5,7 @@ use Rattle.base.specs.Lists.{Every}
 use Rattle.base.specs.ListLaws.{every_append, every_map}
 use Rattle.draw_shares.specs.CourseLaws.{every_concat}
 use Rattle.tree_sizes.specs.Sizes.{Allowed, height, candidates, window_start}
-use Rattle.tree_sizes.specs.SizeLaws.{candidate_face}
+use Rattle.tree_sizes.proofs.SizeLaws.{candidate_face}
 use Rattle.tree_rules.specs.Tree.{Tree, leaf, node, Balanced, Shape, IsShape}
 use Rattle.tree_canonical.specs.ShapeShare.{equal_trees, equal_shapes}
 use Rattle.tree_shapes.specs.Shapes.{with_halves, trees, shapes_of_size, size_count, shapes}

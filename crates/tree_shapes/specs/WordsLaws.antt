@@ -11,9 +11,9 @@ use Rattle.draw.specs.DrawLaws.{draw_one}
 use Rattle.draw.specs.WordLaws.{word_decides}
 use Rattle.draw_shares.specs.Program.{Program, done}
 use Rattle.draw_shares.specs.Tape.{ran, run_at, after_run}
-use Rattle.draw_shares.specs.TapeLaws.{run_face, run_bind}
+use Rattle.draw_shares.proofs.TapeLaws.{run_face, run_bind}
 use Rattle.tree_sizes.specs.Sizes.{candidates, half_candidates, window_start}
-use Rattle.tree_sizes.specs.SizeLaws.{candidates_half}
+use Rattle.tree_sizes.proofs.SizeLaws.{candidates_half}
 use Rattle.tree_rules.specs.Tree.{Tree, leaf, node}
 use Rattle.tree_rules.specs.Rules.{rebuild, join}
 use Rattle.tree_shapes.specs.Shapes.{trees, tree_count}

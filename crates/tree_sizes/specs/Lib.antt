@@ -1,5 +1,2 @@
 -- The size rules: definitions, then their laws, capacities and the fit theorem.
 pub mod Sizes
-pub mod SizeLaws
-pub mod Capacity
-pub mod Fit

@@ -4,9 +4,9 @@ use Rattle.std.proofs.Math.Path.{refl, ap, subst}
 use Rattle.std.proofs.Common.{sym, ◌∙◌, arith}
 use Rattle.std.proofs.Math.Logic.{inl}
 use Rattle.draw_shares.specs.Tape.{Ran, ran, ended, run_at, after_run}
-use Rattle.draw_shares.specs.TapeLaws.{run_bind, run_ends}
+use Rattle.draw_shares.proofs.TapeLaws.{run_bind, run_ends}
 use Rattle.tree_sizes.specs.Sizes.{Allowed, height}
-use Rattle.tree_sizes.specs.Fit.{fit}
+use Rattle.tree_sizes.proofs.Fit.{fit}
 use Rattle.tree_rules.specs.declared.Change.{Change}
 use Rattle.tree_rules.specs.declared.Stepped.{Stepped}
 use Rattle.tree_rules.specs.declared.Stepped.TheVariants as stepped
@@ -15,7 +15,7 @@ use Rattle.tree_rules.specs.Compare.{count_after}
 use Rattle.tree_rules.specs.Rules.{rebuild, rank_of, SizeStep, kept, anew, size_step, size_after, fresh, reshape, update}
 use Rattle.tree_rules.specs.Step.{stepped_as}
 use Rattle.tree_rules.specs.ChangeLaws.{count_most}
-use Rattle.tree_rules.specs.ShapeLaws.{step_ends}
+use Rattle.tree_rules.proofs.ShapeLaws.{step_ends}
 use Rattle.tree_counts.specs.declared.Rebuilt.{Rebuilt}
 use Rattle.tree_counts.specs.Counts.{shape_counts, shape_in}
 use Rattle.tree_counts.specs.Confined.{Confined}
@@ -93,9 +93,9 @@ module _ {change : Change} {N M : ℕ} {counts : List ℕ} (ready : UpdateReady 
       step_kept : run_at (size_step change N M) tape 0 ≡ ran kept next
       step_kept = stepped_kept (run_at (size_step change N M) tape 0) next (sym is ∙ e)
 
-      pub kept-can : WalkReady change N M counts
+      pub kept_can : WalkReady change N M counts
       unfolding size_after
-      kept-can = record {
+      kept_can = record {
         size = ready.size;
         shape = ready.shape;
         held = ready.held;
@@ -108,21 +108,21 @@ module _ {change : Change} {N M : ℕ} {counts : List ℕ} (ready : UpdateReady 
       kept_run = update_run ∙ rw step_kept
 
     module _ (M' next : ℕ) (e : answer ≡ stepped.Anew M' next) where
-      step-anew : run_at (size_step change N M) tape 0 ≡ ran (anew M') next
-      step-anew = stepped_anew (run_at (size_step change N M) tape 0) M' next (sym is ∙ e)
+      step_anew : run_at (size_step change N M) tape 0 ≡ ran (anew M') next
+      step_anew = stepped_anew (run_at (size_step change N M) tape 0) M' next (sym is ∙ e)
 
       module _ (n : ℕ) (en : n ≡ count_after change N) where
-        pub anew-can : RebuildReady M' (height M') 0 1 n (length counts)
+        pub anew_can : RebuildReady M' (height M') 0 1 n (length counts)
         unfolding size_after
-        anew-can = rw en (can_fresh M' (step_meets (anew M') next step-anew))
+        anew_can = rw en (can_fresh M' (step_meets (anew M') next step_anew))
 
-        pub anew-updated : (rank : ℕ) (rebuilt : Rebuilt) (result : Updated) (counts' : List ℕ) → rank ≡ rank_of change
+        pub anew_updated : (rank : ℕ) (rebuilt : Rebuilt) (result : Updated) (counts' : List ℕ) → rank ≡ rank_of change
             → RebuiltAs (run_at (rebuild M' (height M') 0 n) tape next) rebuilt 1 n (set (replicate (length counts) 0) 0 M') counts'
             → result ≡ rebuilt_to M' (record { range = 1; depth = 0; rank = rank }) rebuilt
             → UpdatedAs change N (shape_in counts) (run_at (update change N (shape_in counts)) tape 0) result (length counts) counts'
         unfolding after_run reshape fresh run_at
-        anew-updated rank rebuilt result counts' er h is =
-            rw (is, er, update_run, step-anew, run_bind)
+        anew_updated rank rebuilt result counts' er h is =
+            rw (is, er, update_run, step_anew, run_bind)
             (anew_as (run_at (rebuild M' (height M') 0 (count_after change N)) tape next) M' rebuilt counts' (rw en at h))
 
     pub ended_updated : (counts' : List ℕ) → answer ≡ stepped.Ended

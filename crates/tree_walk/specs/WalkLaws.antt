@@ -9,19 +9,19 @@ use native.Mathlib.Omega.{arith}
 use Rattle.base.specs.CaseLaws.{lt_or_ge, by_lt, if_lt_yes, if_lt_no}
 use Rattle.draw_shares.specs.Program.{done}
 use Rattle.draw_shares.specs.Tape.{Ran, ran, ended, run_at, after_run}
-use Rattle.draw_shares.specs.TapeLaws.{run_bind, run_ends}
+use Rattle.draw_shares.proofs.TapeLaws.{run_bind, run_ends}
 use Rattle.tree_sizes.specs.Sizes.{height, candidates, half_candidates, IsCandidate}
-use Rattle.tree_sizes.specs.SizeLaws.{candidates_half, candidate_below}
-use Rattle.tree_sizes.specs.Fit.{fit, fits_pos, fits_count, fits_halves}
+use Rattle.tree_sizes.proofs.SizeLaws.{candidates_half, candidate_below}
+use Rattle.tree_sizes.proofs.Fit.{fit, fits_pos, fits_count, fits_halves}
 use Rattle.tree_rules.specs.declared.Change.{Change}
 use Rattle.tree_rules.specs.Tree.{Tree, leaf, node, Balanced, Shape, IsShape}
 use Rattle.tree_rules.specs.Compare.{count_after, compare}
 use Rattle.tree_rules.specs.Moves.{rank_now, Leaves, Moves}
-use Rattle.tree_rules.specs.MoveLaws.{moves}
+use Rattle.tree_rules.proofs.MoveLaws.{moves}
 use Rattle.tree_rules.specs.Step.{CompareReady}
 use Rattle.tree_rules.specs.ChangeLaws.{count_least, right_reach, right_after, right_now, left_reach, left_count, left_now}
 use Rattle.tree_rules.specs.Rules.{InReach, rebuild, rebuild_halves, walk_half, walk, rank_of, at_rank, kept, reshape}
-use Rattle.tree_rules.specs.ShapeLaws.{walk_ends}
+use Rattle.tree_rules.proofs.ShapeLaws.{walk_ends}
 use Rattle.tree_counts.specs.declared.Part.{Part}
 use Rattle.tree_counts.specs.declared.Rebuilt.{Rebuilt}
 use Rattle.tree_counts.specs.Ranges.{Perfect}
@@ -243,29 +243,29 @@ module _ {change : Change} {N M : ℕ} {counts₀ tape : List ℕ} {start : ℕ}
       still : IsCandidate (count_after here n) (candidates M d) (rank_now here at_node.b)
       still = moved.within at_node.b at_node.candidate stays
 
-      onward-run : walk_run change N M counts₀ tape start
+      onward_run : walk_run change N M counts₀ tape start
           ≡ after_run (run_at (walk_half (walk M levels (suc d)) here n at_node.b at_node.l at_node.r) tape next) (λ t i. ran (w.plug t) i)
       unfolding visit_run
-      onward-run = w.run ∙ rw (node_run, e)
+      onward_run = w.run ∙ rw (node_run, e)
 
-      balance-most : at_node.b ≤ n
-      balance-most = omega (arith, candidate_below n (candidates M d) at_node.b comparable.before at_node.candidate)
+      balance_most : at_node.b ≤ n
+      balance_most = omega (arith, candidate_below n (candidates M d) at_node.b comparable.before at_node.candidate)
 
-      left-walking : rank_of here ≤ at_node.b
+      left_walking : rank_of here ≤ at_node.b
           → Walking change N M counts₀ tape start (set counts k (count_after here n)) levels (d + 1) (2 * k) at_node.b here next
-      left-walking h =
+      left_walking h =
           let reach = left_reach here at_node.b h (moved.stays at_node.b at_node.candidate stays) in
           record {
             tree = at_node.l;
             plug = λ t. w.plug (node (count_after here at_node.b) t at_node.r);
             run =
-                onward-run
+                onward_run
                 ∙ rw (left_run M levels d here n at_node.b at_node.l at_node.r tape next h)
                 (after_plug (run_at (walk M levels (d + 1) here at_node.b at_node.l) tape next) _ w.plug);
             written = λ t.
                 w.written (node (count_after here at_node.b) t at_node.r)
                 ∙ write_left counts k n at_node.b at_node.l at_node.r w.positive (count_after here n) (count_after here at_node.b) t
-                (left_count here n at_node.b balance-most reach) right_holds;
+                (left_count here n at_node.b balance_most reach) right_holds;
             within = λ t part inside.
                 w.within (node (count_after here at_node.b) t at_node.r) part
                 (within_left k d here w.tree at_node.b at_node.l at_node.r at_node.is part t reach inside);
@@ -281,16 +281,16 @@ module _ {change : Change} {N M : ℕ} {counts₀ tape : List ℕ} {start : ℕ}
             kept = length-set counts k (count_after here n) ∙ w.kept;
           }
 
-      right-walking : at_node.b < rank_of here
+      right_walking : at_node.b < rank_of here
           → Walking change N M counts₀ tape start (set counts k (count_after here n)) levels (d + 1) (2 * k + 1) (n - at_node.b)
           (at_rank here (rank_of here - at_node.b)) next
-      right-walking h =
+      right_walking h =
           let rest = right_after here n at_node.b h w.reach in
           record {
             tree = at_node.r;
             plug = λ t. w.plug (node at_node.b at_node.l t);
             run =
-                onward-run
+                onward_run
                 ∙ rw (right_run M levels d here n at_node.b at_node.l at_node.r tape next h)
                 (after_plug (run_at (walk M levels (d + 1) (at_rank here (rank_of here - at_node.b)) (n - at_node.b) at_node.r) tape next) _ w.plug);
             written = λ t.
@@ -311,17 +311,17 @@ module _ {change : Change} {N M : ℕ} {counts₀ tape : List ℕ} {start : ℕ}
             kept = length-set counts k (count_after here n) ∙ w.kept;
           }
 
-      balance-seen : b ≡ at_node.b
-      balance-seen = s.balance_is ∙ balance
+      balance_seen : b ≡ at_node.b
+      balance_seen = s.balance_is ∙ balance
 
-      pass-left : rank_of here ≤ b
+      pass_left : rank_of here ≤ b
           → Walking change N M counts₀ tape start (set counts k (count_after here n)) levels (d + 1) (2 * k) b here next
-      pass-left h = rw balance-seen (left-walking (rw balance-seen at h))
+      pass_left h = rw balance_seen (left_walking (rw balance_seen at h))
 
-      pass-right : b < rank_of here
+      pass_right : b < rank_of here
           → Walking change N M counts₀ tape start (set counts k (count_after here n)) levels (d + 1) (2 * k + 1) (n - b)
           (at_rank here (rank_of here - b)) next
-      pass-right h = rw balance-seen (right-walking (rw balance-seen at h))
+      pass_right h = rw balance_seen (right_walking (rw balance_seen at h))
 
 -- ---- the same in the code's range
 
@@ -350,9 +350,9 @@ module _ {change : Change} {N M : ℕ} {counts₀ tape : List ℕ} {start : ℕ}
         (one_more range.levels above) w
 
     module _ {c b : ℕ} {v : Visited} (s : Seen M tape counts range.depth range.k range.n range.change at c b v) where
-      pub stop-visit : ((next : ℕ) → v ≢ visited.Pass next)
+      pub stop_visit : ((next : ℕ) → v ≢ visited.Pass next)
           → Stopped change N M counts₀ tape start (record { range = range; visited = v }) counts
-      stop-visit stops =
+      stop_visit stops =
           subst (λ (r : Range). Stopped change N M counts₀ tape start (record { range = r; visited = v }) counts)
           (sym (above_range range above)) (node_stop above_walking s stops)
 
@@ -363,9 +363,9 @@ module _ {change : Change} {N M : ℕ} {counts₀ tape : List ℕ} {start : ℕ}
       pass next after half e ea eh =
           ⊎_elim
           (λ (h : b < rank_of range.change).
-          rw (ea, eh, if_lt_yes b (rank_of range.change) _ _ h) (pass-right above_walking s next e h))
+          rw (ea, eh, if_lt_yes b (rank_of range.change) _ _ h) (pass_right above_walking s next e h))
           (λ (h : rank_of range.change ≤ b).
-          rw (ea, eh, if_lt_no b (rank_of range.change) _ _ h) (pass-left above_walking s next e h))
+          rw (ea, eh, if_lt_no b (rank_of range.change) _ _ h) (pass_left above_walking s next e h))
           (lt_or_ge b (rank_of range.change))
 
 -- ---- the end of the walk

@@ -5,7 +5,7 @@ use Prim.Native.Nat.{◌≤◌}
 use native.Mathlib.Omega.{arith}
 use lib.ListN.{length}
 use Rattle.store_board.specs.Board.{falls, some_from}
-use Rattle.call_open.specs.ArgumentLaws.{still_refused, board-many, board_falls, board_rank, board-short, board-admitted}
+use Rattle.call_open.specs.ArgumentLaws.{still_refused, board_many, board_falls, board_rank, board_short, board_admitted}
 use Rattle.call_open.proofs.admit_board.Goals.{Else-ranks-gt64, Else-ranks_fall, Else-some_rank_from}
 use Rattle.call_open.proofs.admit_board.Goals as goal
 
@@ -21,7 +21,7 @@ inside : (c : Else-some_rank_from)
 inside c = sym c.some_rank_from.ensures ∙ c.if-some_rank_from.false
 
 pub returns-then-ranks-gt64 : goal.returns-then-ranks-gt64
-returns-then-ranks-gt64 c = board-many c.in-Sheet.is _ _ c.if-ranks-gt64.true
+returns-then-ranks-gt64 c = board_many c.in-Sheet.is _ _ c.if-ranks-gt64.true
 
 pub returns-then-ranks_fall : goal.returns-then-ranks_fall
 returns-then-ranks_fall c = board_falls c.in-Sheet.is _ _ (sym c.ranks_fall.ensures ∙ c.if-ranks_fall.true)
@@ -35,11 +35,11 @@ returns-then-some_rank_from c =
 
 pub returns-then-room-ranks : goal.returns-then-room-ranks
 returns-then-room-ranks c =
-    board-short c.in-Sheet.is _ _ (few (goal.at.returns-then-room-ranks c).Else-ranks-gt64) (in_order (goal.at.returns-then-room-ranks c).Else-ranks_fall) (inside (goal.at.returns-then-room-ranks c).Else-some_rank_from) c.if-room-ranks.true
+    board_short c.in-Sheet.is _ _ (few (goal.at.returns-then-room-ranks c).Else-ranks-gt64) (in_order (goal.at.returns-then-room-ranks c).Else-ranks_fall) (inside (goal.at.returns-then-room-ranks c).Else-some_rank_from) c.if-room-ranks.true
 
 pub returns-else-room-ranks : goal.returns-else-room-ranks
 returns-else-room-ranks c =
-    board-admitted c.in-Sheet.is _ _ (few (goal.at.returns-else-room-ranks c).Else-ranks-gt64) (in_order (goal.at.returns-else-room-ranks c).Else-ranks_fall) (inside (goal.at.returns-else-room-ranks c).Else-some_rank_from) c.if-room-ranks.false
+    board_admitted c.in-Sheet.is _ _ (few (goal.at.returns-else-room-ranks c).Else-ranks-gt64) (in_order (goal.at.returns-else-room-ranks c).Else-ranks_fall) (inside (goal.at.returns-else-room-ranks c).Else-some_rank_from) c.if-room-ranks.false
 
 pub returns-in-Refused : goal.returns-in-Refused
 returns-in-Refused c = still_refused _ c.in-Refused.is

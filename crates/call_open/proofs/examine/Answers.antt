@@ -1,7 +1,7 @@
 -- `examine` meets its contract.
 use mathlib.Core.Path.{sym, ◌∙◌}
 use native.Mathlib.Omega.{arith}
-use Rattle.call_open.specs.OpeningLaws.{slots_wrong, counts_wrong, open_wrong, open_large, two_counts, read_room, work_length, open-other, open-sheet}
+use Rattle.call_open.specs.OpeningLaws.{slots_wrong, counts_wrong, open_wrong, open_large, two_counts, read_room, work_length, open_other, open_sheet}
 use Rattle.call_open.proofs.examine.Goals as goal
 
 pub returns-then-slots-cap : goal.returns-then-slots-cap
@@ -28,7 +28,7 @@ is_sheet-requires c =
 
 pub returns-then-not-is_sheet : goal.returns-then-not-is_sheet
 returns-then-not-is_sheet c =
-    open-other _ _ _ c.if-slots-cap.false c.if-counts-cap.false c.requires.capacity c.greatest_size.ensures c.if-greatest_size-m.false c.read_counts.ensures c.is_sheet.ensures
+    open_other _ _ _ c.if-slots-cap.false c.if-counts-cap.false c.requires.capacity c.greatest_size.ensures c.if-greatest_size-m.false c.read_counts.ensures c.is_sheet.ensures
     c.if-not-is_sheet.true
 
 pub bounds-work-1 : goal.bounds-work-1
@@ -37,5 +37,5 @@ bounds-work-1 c =
 
 pub returns : goal.returns
 returns c =
-    open-sheet _ _ _ c.if-slots-cap.false c.if-counts-cap.false c.requires.capacity c.greatest_size.ensures c.if-greatest_size-m.false c.read_counts.ensures c.is_sheet.ensures
+    open_sheet _ _ _ c.if-slots-cap.false c.if-counts-cap.false c.requires.capacity c.greatest_size.ensures c.if-greatest_size-m.false c.read_counts.ensures c.is_sheet.ensures
     c.if-not-is_sheet.false

@@ -14,8 +14,8 @@ use Rattle.call_outcomes.specs.PlainCallLaws.{BoardWithin, board_within}
 use Rattle.call_open.specs.Opening.{admitted, OpenedSheet}
 use Rattle.call_open.specs.declared.Opened.TheVariants as opened
 use Rattle.call_open.specs.AdmittedLaws.{found_sheet, found_free}
-use Rattle.call_questions.specs.AnswerLaws.{asked_refused}
-use Rattle.call_questions.specs.StartLaws.{entries_number, size_small, counts_room, start-place, start-passed}
+use Rattle.call_questions.proofs.AnswerLaws.{asked_refused}
+use Rattle.call_questions.specs.StartLaws.{entries_number, size_small, counts_room, start_place, start_passed}
 use Rattle.call_questions.specs.BoardLaws.{board_reply, no_ranks}
 use Rattle.call_questions.proofs.board.Goals.{In-Sheet, Then-ranks-gt0}
 use Rattle.call_questions.proofs.board.Goals as goal
@@ -54,11 +54,11 @@ start_of-start-requires c =
 
 pub overflow_sub-lowest : goal.overflow_sub-lowest
 overflow_sub-lowest c =
-    omega (arith, start-place (sheet (goal.at.overflow_sub-lowest c).In-Sheet) (ready (goal.at.overflow_sub-lowest c).In-Sheet) _ c.start_of-start.ensures (first_inside (goal.at.overflow_sub-lowest c).Then-ranks-gt0))
+    omega (arith, start_place (sheet (goal.at.overflow_sub-lowest c).In-Sheet) (ready (goal.at.overflow_sub-lowest c).In-Sheet) _ c.start_of-start.ensures (first_inside (goal.at.overflow_sub-lowest c).Then-ranks-gt0))
 
 pub copy_entries-requires : goal.copy_entries-requires
 copy_entries-requires c =
-    record { from = start-passed (sheet (goal.at.copy_entries-requires c).In-Sheet) (ready (goal.at.copy_entries-requires c).In-Sheet) _ c.start_of-start.ensures (first_inside (goal.at.copy_entries-requires c).Then-ranks-gt0); order = falls_from 0 _ _ (omega arith) (within (goal.at.copy_entries-requires c).In-Sheet).in_order; entries = rw (entries_number (sheet (goal.at.copy_entries-requires c).In-Sheet)) at (within (goal.at.copy_entries-requires c).In-Sheet).inside; room = (within (goal.at.copy_entries-requires c).In-Sheet).enough }
+    record { from = start_passed (sheet (goal.at.copy_entries-requires c).In-Sheet) (ready (goal.at.copy_entries-requires c).In-Sheet) _ c.start_of-start.ensures (first_inside (goal.at.copy_entries-requires c).Then-ranks-gt0); order = falls_from 0 _ _ (omega arith) (within (goal.at.copy_entries-requires c).In-Sheet).in_order; entries = rw (entries_number (sheet (goal.at.copy_entries-requires c).In-Sheet)) at (within (goal.at.copy_entries-requires c).In-Sheet).inside; room = (within (goal.at.copy_entries-requires c).In-Sheet).enough }
 
 pub returns-then-ranks-gt0 : goal.returns-then-ranks-gt0
 returns-then-ranks-gt0 c =

@@ -2,7 +2,7 @@
 use mathlib.Core.Path.{sym, ◌∙◌}
 use Rattle.call_outcomes.specs.PlainCalls.{count_of}
 use Rattle.call_open.specs.ArgumentLaws.{admitted_check}
-use Rattle.call_questions.specs.AnswerLaws.{answers_refused, check_answer}
+use Rattle.call_questions.proofs.AnswerLaws.{answers_refused, check_answer}
 use Rattle.call_questions.proofs.check.Goals as goal
 
 pub returns-in-Sheet : goal.returns-in-Sheet

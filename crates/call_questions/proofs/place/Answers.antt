@@ -6,7 +6,7 @@ use Rattle.call_outcomes.specs.PlainCallLaws.{place_within}
 use Rattle.call_open.specs.Opening.{admitted}
 use Rattle.call_open.specs.declared.Opened.TheVariants as opened
 use Rattle.call_open.specs.AdmittedLaws.{found_sheet, found_free}
-use Rattle.call_questions.specs.AnswerLaws.{asked_refused}
+use Rattle.call_questions.proofs.AnswerLaws.{asked_refused}
 use Rattle.call_questions.specs.StartLaws.{entries_number}
 use Rattle.call_questions.specs.TalliedLaws.{by_number}
 use Rattle.call_questions.specs.PlaceLaws.{place_reply_lem}

@@ -10,7 +10,7 @@ use Rattle.store_scoring.specs.Scoring.{tally}
 use Rattle.store_scoring.specs.ScoringLaws.{tally_front, tally_most}
 use Rattle.store_tallies.specs.PathLaws.{path_before}
 use Rattle.store_ties.specs.Ties.{placing_in}
-use Rattle.call_questions.specs.StartLaws.{entries_number, entries_few, size_small, counts_room, start-enough}
+use Rattle.call_questions.specs.StartLaws.{entries_number, entries_few, size_small, counts_room, start_enough}
 use Rattle.call_questions.specs.TalliedLaws.{numbers_room, ranges_tallied, root_tallied}
 use Rattle.call_questions.specs.PlaceLaws.{leaf_from, leaf_below, scoring_before, rank_slot, rank_number, rank_before}
 use Rattle.call_questions.proofs.placing_of.Goals.{After-scoring_among, After-start_of-start, Start}
@@ -36,7 +36,7 @@ enough : (c : After-start_of-start)
     c.start_of-start.result.rank + 1 ≤ length (nonzero (drop c.start_of-start.result.slot slots))
 enough c =
     let t = c.requires.sheet in
-    start-enough t.sheet t.ready _ c.start_of-start.ensures 1 (omega arith) (omega (arith, c.requires.below))
+    start_enough t.sheet t.ready _ c.start_of-start.ensures 1 (omega arith) (omega (arith, c.requires.below))
 
 pub scoring_among-requires : goal.scoring_among-requires
 scoring_among-requires c = omega (arith, enough (goal.at.scoring_among-requires c).After-start_of-start)

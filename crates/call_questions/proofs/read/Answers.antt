@@ -11,8 +11,8 @@ use Rattle.call_outcomes.specs.PlainCallLaws.{read_within}
 use Rattle.call_open.specs.Opening.{admitted, OpenedSheet}
 use Rattle.call_open.specs.declared.Opened.TheVariants as opened
 use Rattle.call_open.specs.AdmittedLaws.{found_sheet, found_free}
-use Rattle.call_questions.specs.AnswerLaws.{asked_refused}
-use Rattle.call_questions.specs.StartLaws.{entries_few, size_small, counts_room, from_start, start-enough}
+use Rattle.call_questions.proofs.AnswerLaws.{asked_refused}
+use Rattle.call_questions.specs.StartLaws.{entries_few, size_small, counts_room, from_start, start_enough}
 use Rattle.call_questions.specs.ReadLaws.{read_room, read_reply_lem}
 use Rattle.call_questions.proofs.read.Goals.{In-Sheet}
 use Rattle.call_questions.proofs.read.Goals as goal
@@ -56,7 +56,7 @@ start_of-start-requires c =
 
 pub read_from-requires : goal.read_from-requires
 read_from-requires c =
-    record { entries = start-enough (sheet (goal.at.read_from-requires c).In-Sheet) (ready (goal.at.read_from-requires c).In-Sheet) _ c.start_of-start.ensures _ (omega arith) (read_room (sheet (goal.at.read_from-requires c).In-Sheet) _ _ _ (free (goal.at.read_from-requires c).In-Sheet)); room = (within (goal.at.read_from-requires c).In-Sheet).2 }
+    record { entries = start_enough (sheet (goal.at.read_from-requires c).In-Sheet) (ready (goal.at.read_from-requires c).In-Sheet) _ c.start_of-start.ensures _ (omega arith) (read_room (sheet (goal.at.read_from-requires c).In-Sheet) _ _ _ (free (goal.at.read_from-requires c).In-Sheet)); room = (within (goal.at.read_from-requires c).In-Sheet).2 }
 
 pub returns-in-Sheet : goal.returns-in-Sheet
 returns-in-Sheet c =

@@ -1,6 +1,6 @@
 -- `are_tallies` meets its contract.
 use Rattle.tree_sizes.specs.Sizes.{height}
-use Rattle.store_order.specs.CountOrderLaws.{length_number_order}
+use Rattle.store_order.proofs.CountOrderLaws.{length_number_order}
 use Rattle.call_tallies.specs.WriteLaws.{tested_by_number}
 use Rattle.call_tallies.proofs.are_tallies.Goals as goal
 

@@ -6,7 +6,7 @@ use lib.ListN.{length, length-replicate}
 use lib.Pow.{pow_pos}
 use Rattle.base.specs.ListLaws.{replicate_at}
 use Rattle.tree_sizes.specs.Sizes.{height}
-use Rattle.tree_sizes.specs.SizeLaws.{height_most}
+use Rattle.tree_sizes.proofs.SizeLaws.{height_most}
 use Rattle.store_order.specs.CountOrder.{count_order}
 use Rattle.store_scoring.specs.Scoring.{tally}
 use Rattle.store_sums.specs.LaidLaws.{numbers_only}

@@ -1,7 +1,7 @@
 -- `board` meets its contract.
 use mathlib.Core.Path.{refl}
 use Rattle.call_outcomes.specs.PlainCalls.{board_of}
-use Rattle.call_outcomes.specs.FederationLaws.{federation_ready}
+use Rattle.call_outcomes.proofs.FederationLaws.{federation_ready}
 use Rattle.sheet_answers.specs.QuestionLaws.{readable, asked_outcome}
 use Rattle.federation_calls.proofs.board.Goals as goal
 

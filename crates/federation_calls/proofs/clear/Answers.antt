@@ -6,7 +6,7 @@ use native.Mathlib.Omega.{arith}
 use lib.ListN.{replicate}
 use Rattle.call_outcomes.specs.DecisionLaws.{clear_refused}
 use Rattle.call_outcomes.specs.Plain.{plain_view, plain, plain_store_of}
-use Rattle.call_outcomes.specs.PlainLaws.{right_plain}
+use Rattle.call_outcomes.proofs.PlainLaws.{right_plain}
 use Rattle.call_outcomes.specs.Federation.{federation}
 use Rattle.sheet_open.specs.LengthLaws.{lengths_tested}
 use Rattle.sheet_answers.specs.ClearLaws.{clear_done}

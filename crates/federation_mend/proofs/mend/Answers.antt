@@ -5,13 +5,13 @@ use native.Mathlib.Omega.{arith}
 use lib.ListN.{get_or}
 use Rattle.call_outcomes.specs.Untallied.{store_of}
 use Rattle.call_outcomes.specs.Plain.{plain_view, PlainLengths, plain_store_of}
-use Rattle.call_outcomes.specs.PlainLaws.{right_plain}
+use Rattle.call_outcomes.proofs.PlainLaws.{right_plain}
 use Rattle.call_outcomes.specs.Federation.{federation}
-use Rattle.call_outcomes.specs.FederationLaws.{federation_ready}
+use Rattle.call_outcomes.proofs.FederationLaws.{federation_ready}
 use Rattle.call_open.specs.Opening.{OpenedSheet}
 use Rattle.sheet_open.specs.LengthLaws.{lengths_tested}
 use Rattle.sheet_recount.specs.FoundLaws.{fresh_number, same_counts}
-use Rattle.sheet_recount.specs.MendLaws.{mend_lengths, mend_none, mend-made}
+use Rattle.sheet_recount.specs.MendLaws.{mend_lengths, mend_none, mend_made}
 use Rattle.federation_mend.proofs.mend.Goals.{Else-not-right_lengths, In-Sheet}
 use Rattle.federation_mend.proofs.mend.Goals as goal
 
@@ -52,7 +52,7 @@ copy_ranges-requires c =
 pub returns-in-Sheet : goal.returns-in-Sheet
 returns-in-Sheet c =
     let counts = c.args.counts.now in
-    mend-made federation_ready _ counts _ (right (goal.at.returns-in-Sheet c).Else-not-right_lengths) (found (goal.at.returns-in-Sheet c).In-Sheet).0 (found (goal.at.returns-in-Sheet c).In-Sheet).1
+    mend_made federation_ready _ counts _ (right (goal.at.returns-in-Sheet c).Else-not-right_lengths) (found (goal.at.returns-in-Sheet c).In-Sheet).0 (found (goal.at.returns-in-Sheet c).In-Sheet).1
     (same_counts federation_ready (found (goal.at.returns-in-Sheet c).In-Sheet).0 counts (sym (found (goal.at.returns-in-Sheet c).In-Sheet).1) c.copy_ranges.ensures) (rw c.capacity-cap.ensures at c.tally.ensures)
 
 pub returns-in-Refused : goal.returns-in-Refused

@@ -1,5 +1,5 @@
 -- `examine` meets its contract.
-use Rattle.call_outcomes.specs.FederationLaws.{federation_ready}
+use Rattle.call_outcomes.proofs.FederationLaws.{federation_ready}
 use Rattle.federation_store.proofs.examine.Goals as goal
 
 pub examine-requires : goal.examine-requires

@@ -4,7 +4,7 @@ use Prim.Native.Nat.{ℕ}
 use native.Mathlib.Omega.{arith}
 use Rattle.call_outcomes.specs.Plain.{plain_view}
 use Rattle.call_outcomes.specs.Federation.{federation}
-use Rattle.call_outcomes.specs.FederationLaws.{federation_ready}
+use Rattle.call_outcomes.proofs.FederationLaws.{federation_ready}
 use Rattle.call_open.specs.Opening.{plain_numbers}
 use Rattle.call_open.specs.SliceOpeningLaws.{look_lengths}
 use Rattle.call_timed.specs.Timed.{balance_slice, timed_store_of}

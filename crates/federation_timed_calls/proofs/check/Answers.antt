@@ -1,7 +1,7 @@
 -- `check` meets its contract.
 use mathlib.Core.Path.{refl}
 use Rattle.call_outcomes.specs.PlainCalls.{count_of, written_for}
-use Rattle.call_outcomes.specs.FederationLaws.{federation_ready}
+use Rattle.call_outcomes.proofs.FederationLaws.{federation_ready}
 use Rattle.timed_answers.specs.QuestionLaws.{answered_outcome}
 use Rattle.federation_timed_calls.proofs.check.Goals as goal
 

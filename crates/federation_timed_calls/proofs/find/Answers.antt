@@ -9,8 +9,8 @@ use Rattle.call_open.specs.Opening.{OpenedStore}
 use Rattle.call_open.specs.AdmittedLaws.{opened_store}
 use Rattle.call_timed.specs.Timed.{timed_view, find, timed_store_of, timed_numbers}
 use Rattle.timed_answers.specs.SheetLaws.{search_ready}
-use Rattle.timed_answers.specs.EntryLaws.{store_refused, find_zero, find-present, find_absent}
-use Rattle.call_outcomes.specs.FederationLaws.{federation_ready}
+use Rattle.timed_answers.specs.EntryLaws.{store_refused, find_zero, find_present, find_absent}
+use Rattle.call_outcomes.proofs.FederationLaws.{federation_ready}
 use Rattle.federation_timed_calls.proofs.find.Goals.{Else-key-eq0, In-Sheet}
 use Rattle.federation_timed_calls.proofs.find.Goals as goal
 
@@ -37,7 +37,7 @@ search-sought-requires c = search_ready federation_ready (sheet (goal.at.search-
 
 pub returns-then-sought : goal.returns-then-sought
 returns-then-sought c =
-    find-present federation_ready (sheet (goal.at.returns-then-sought c).In-Sheet) _ (some_key (goal.at.returns-then-sought c).Else-key-eq0) _ c.search-sought.ensures c.if-sought.true
+    find_present federation_ready (sheet (goal.at.returns-then-sought c).In-Sheet) _ (some_key (goal.at.returns-then-sought c).Else-key-eq0) _ c.search-sought.ensures c.if-sought.true
 
 pub returns-else-sought : goal.returns-else-sought
 returns-else-sought c =

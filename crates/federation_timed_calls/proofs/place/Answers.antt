@@ -1,7 +1,7 @@
 -- `place` meets its contract.
 use mathlib.Core.Path.{refl}
 use Rattle.call_outcomes.specs.PlainCalls.{place_of}
-use Rattle.call_outcomes.specs.FederationLaws.{federation_ready}
+use Rattle.call_outcomes.proofs.FederationLaws.{federation_ready}
 use Rattle.timed_answers.specs.QuestionLaws.{tallied, asked_outcome}
 use Rattle.federation_timed_calls.proofs.place.Goals as goal
 

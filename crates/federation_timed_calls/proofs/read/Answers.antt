@@ -1,7 +1,7 @@
 -- `read` meets its contract.
 use mathlib.Core.Path.{refl}
 use Rattle.call_outcomes.specs.PlainCalls.{read_ranks}
-use Rattle.call_outcomes.specs.FederationLaws.{federation_ready}
+use Rattle.call_outcomes.proofs.FederationLaws.{federation_ready}
 use Rattle.timed_answers.specs.QuestionLaws.{readable, asked_outcome}
 use Rattle.federation_timed_calls.proofs.read.Goals as goal
 

@@ -3,7 +3,7 @@ use mathlib.Core.Path.{◌≡◌, refl, sym, ◌∙◌}
 use Rattle.tree_rules.specs.declared.Change.TheVariants.{Delete}
 use Rattle.call_outcomes.specs.Causes.{accept, decision}
 use Rattle.call_outcomes.specs.Federation.{federation}
-use Rattle.call_outcomes.specs.FederationLaws.{federation_ready}
+use Rattle.call_outcomes.proofs.FederationLaws.{federation_ready}
 use Rattle.call_open.specs.declared.Opened.TheVariants.{Sheet}
 use Rattle.call_open.specs.Opening.{OpenedStore}
 use Rattle.call_open.specs.AdmittedLaws.{opened_store, found_sheet, found_free, call_refused}

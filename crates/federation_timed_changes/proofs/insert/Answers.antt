@@ -6,12 +6,12 @@ use Rattle.store_keys.specs.Key.{key}
 use Rattle.call_outcomes.specs.Causes.{accept, looked_at, decision}
 use Rattle.call_outcomes.specs.PlainCalls.{plain_change}
 use Rattle.call_outcomes.specs.Federation.{federation}
-use Rattle.call_outcomes.specs.FederationLaws.{federation_ready}
+use Rattle.call_outcomes.proofs.FederationLaws.{federation_ready}
 use Rattle.call_open.specs.Opening.{OpenedStore}
 use Rattle.call_open.specs.AdmittedLaws.{opened_store}
 use Rattle.call_timed.specs.Timed.{timed_view, insert_entry, plainly, timed, insert, timed_store_of, timed_numbers}
 use Rattle.timed_answers.specs.SheetLaws.{search_ready}
-use Rattle.timed_answers.specs.EntryLaws.{store_refused, change_ready, change_done, insert_zero, insert_present, insert-full, insert-decided, insert-plainly}
+use Rattle.timed_answers.specs.EntryLaws.{store_refused, change_ready, change_done, insert_zero, insert_present, insert_full, insert_decided, insert_plainly}
 use Rattle.federation_timed_changes.proofs.insert.Goals.{Else-key-eq0, Else-n-ge65536, In-Sheet}
 use Rattle.federation_timed_changes.proofs.insert.Goals as goal
 
@@ -31,13 +31,13 @@ decided : (c : Else-n-ge65536)
     → let a = c.args in
     decision (timed federation) (insert a.entry) (timed_store_of a.slots.now a.counts.now a.tallies.now a.balance.now) ≡ accept (sheet (goal.at.Else-n-ge65536 c).In-Sheet).contents
 decided c =
-    insert-decided federation_ready (sheet (goal.at.Else-n-ge65536 c).In-Sheet) _ (some_key (goal.at.Else-n-ge65536 c).Else-key-eq0) _ c.search-sought.ensures c.if-sought.false c.if-n-ge65536.false
+    insert_decided federation_ready (sheet (goal.at.Else-n-ge65536 c).In-Sheet) _ (some_key (goal.at.Else-n-ge65536 c).Else-key-eq0) _ c.search-sought.ensures c.if-sought.false c.if-n-ge65536.false
 
 plainly_is : (c : Else-n-ge65536)
     → let e = c.args.entry in
     plainly (insert_entry e) (sheet (goal.at.Else-n-ge65536 c).In-Sheet).contents.list ≡ plain_change (Insert c.search-sought.result.rank) e
 plainly_is c =
-    insert-plainly federation_ready (sheet (goal.at.Else-n-ge65536 c).In-Sheet) _ (some_key (goal.at.Else-n-ge65536 c).Else-key-eq0) _ c.search-sought.ensures c.if-sought.false
+    insert_plainly federation_ready (sheet (goal.at.Else-n-ge65536 c).In-Sheet) _ (some_key (goal.at.Else-n-ge65536 c).Else-key-eq0) _ c.search-sought.ensures c.if-sought.false
 
 pub examine-requires : goal.examine-requires
 examine-requires c =
@@ -55,7 +55,7 @@ returns-then-sought c =
 
 pub returns-then-n-ge65536 : goal.returns-then-n-ge65536
 returns-then-n-ge65536 c =
-    insert-full federation_ready (sheet (goal.at.returns-then-n-ge65536 c).In-Sheet) _ (some_key (goal.at.returns-then-n-ge65536 c).Else-key-eq0) _ c.search-sought.ensures c.if-sought.false _ c.if-n-ge65536.true
+    insert_full federation_ready (sheet (goal.at.returns-then-n-ge65536 c).In-Sheet) _ (some_key (goal.at.returns-then-n-ge65536 c).Else-key-eq0) _ c.search-sought.ensures c.if-sought.false _ c.if-n-ge65536.true
 
 pub change-requires : goal.change-requires
 change-requires c =

@@ -5,14 +5,14 @@ use native.Mathlib.Omega.{arith}
 use lib.ListN.{get_or}
 use Rattle.call_outcomes.specs.Untallied.{store_of}
 use Rattle.call_outcomes.specs.Federation.{federation}
-use Rattle.call_outcomes.specs.FederationLaws.{federation_ready}
+use Rattle.call_outcomes.proofs.FederationLaws.{federation_ready}
 use Rattle.call_open.specs.Opening.{OpenedSheet}
 use Rattle.call_open.specs.OpenedLaws.{size_small, slots_room, levels_room}
 use Rattle.call_timed.specs.Timed.{timed_view, TimedLengths, timed_store_of}
-use Rattle.call_timed.specs.TimedLaws.{right_timed}
+use Rattle.call_timed.proofs.TimedLaws.{right_timed}
 use Rattle.sheet_recount.specs.FoundLaws.{fresh_number, same_counts}
 use Rattle.timed_open.specs.LengthLaws.{lengths_tested}
-use Rattle.timed_answers.specs.MendLaws.{mend_lengths, mend_none, mend-fallen, mend-made}
+use Rattle.timed_answers.specs.MendLaws.{mend_lengths, mend_none, mend_fallen, mend_made}
 use Rattle.federation_timed_mend.proofs.mend.Goals.{After-right_lengths, Else-not-right_lengths, In-Sheet}
 use Rattle.federation_timed_mend.proofs.mend.Goals as goal
 
@@ -56,7 +56,7 @@ entries_rise-requires c = rw c.slots.ensures (slots_room federation_ready (found
 
 pub returns-then-not-entries_rise : goal.returns-then-not-entries_rise
 returns-then-not-entries_rise c =
-    mend-fallen federation_ready _ _ _ _ (right (goal.at.returns-then-not-entries_rise c).Else-not-right_lengths) (found (goal.at.returns-then-not-entries_rise c).In-Sheet).0 (rw (← c.slots.ensures) (sym c.entries_rise.ensures ∙ c.if-not-entries_rise.true))
+    mend_fallen federation_ready _ _ _ _ (right (goal.at.returns-then-not-entries_rise c).Else-not-right_lengths) (found (goal.at.returns-then-not-entries_rise c).In-Sheet).0 (rw (← c.slots.ensures) (sym c.entries_rise.ensures ∙ c.if-not-entries_rise.true))
 
 pub tally-requires : goal.tally-requires
 tally-requires c =
@@ -74,7 +74,7 @@ write_balance-requires c =
 pub returns-else-not-entries_rise : goal.returns-else-not-entries_rise
 returns-else-not-entries_rise c =
     let counts = c.args.counts.now in
-    mend-made federation_ready _ counts _ _ (right (goal.at.returns-else-not-entries_rise c).Else-not-right_lengths) (found (goal.at.returns-else-not-entries_rise c).In-Sheet).0 (found (goal.at.returns-else-not-entries_rise c).In-Sheet).1
+    mend_made federation_ready _ counts _ _ (right (goal.at.returns-else-not-entries_rise c).Else-not-right_lengths) (found (goal.at.returns-else-not-entries_rise c).In-Sheet).0 (found (goal.at.returns-else-not-entries_rise c).In-Sheet).1
     (rw (← c.slots.ensures) (sym c.entries_rise.ensures ∙ c.if-not-entries_rise.false))
     (same_counts federation_ready (found (goal.at.returns-else-not-entries_rise c).In-Sheet).0 counts (sym (found (goal.at.returns-else-not-entries_rise c).In-Sheet).1) c.copy_ranges.ensures) (rw c.capacity-cap.ensures at c.tally.ensures)
     c.write_balance.ensures

@@ -1,7 +1,7 @@
 -- `collect` meets its contract. The loop's invariant: what is collected from the start is what is collected from here.
 use mathlib.Core.Path.{refl, sym, ◌∙◌}
 use lib.ListN.{length-set}
-use Rattle.frame_input.specs.CollectLaws.{collect_end, collect_lf, collect_room, collect_full}
+use Rattle.frame_input.proofs.CollectLaws.{collect_end, collect_lf, collect_room, collect_full}
 use Rattle.frame_input.proofs.collect.Goals as goal
 
 pub loop-at-init : goal.loop-at-init

@@ -1,7 +1,7 @@
 -- `read` meets its contract.
 use mathlib.Core.Path.{refl}
 use Rattle.call_outcomes.specs.PlainCalls.{read_ranks}
-use Rattle.call_outcomes.specs.ClubsLaws.{clubs_ready}
+use Rattle.call_outcomes.proofs.ClubsLaws.{clubs_ready}
 use Rattle.sheet_answers.specs.QuestionLaws.{readable, asked_outcome}
 use Rattle.sheet_calls.proofs.read.Goals as goal
 

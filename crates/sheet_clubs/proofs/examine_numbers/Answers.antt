@@ -1,9 +1,9 @@
 -- `examine_numbers` meets its contract.
 use mathlib.Core.Path.{◌≡◌, sym, ◌∙◌}
 use Rattle.call_outcomes.specs.Plain.{plain_view, PlainLengths, plain_store_of}
-use Rattle.call_outcomes.specs.PlainLaws.{right_plain}
+use Rattle.call_outcomes.proofs.PlainLaws.{right_plain}
 use Rattle.call_outcomes.specs.Clubs.{clubs}
-use Rattle.call_outcomes.specs.ClubsLaws.{clubs_ready}
+use Rattle.call_outcomes.proofs.ClubsLaws.{clubs_ready}
 use Rattle.sheet_open.specs.LengthLaws.{lengths_tested}
 use Rattle.sheet_open.specs.PlainOpeningLaws.{plain_wrong}
 use Rattle.sheet_clubs.proofs.examine_numbers.Goals.{After-right_lengths, Else-not-right_lengths}

@@ -1,7 +1,7 @@
 -- `is_tallied` meets its contract.
 use mathlib.Core.Path.{refl, sym, ◌∙◌}
 use native.Mathlib.Omega.{arith}
-use Rattle.call_outcomes.specs.ClubsLaws.{clubs_ready}
+use Rattle.call_outcomes.proofs.ClubsLaws.{clubs_ready}
 use Rattle.call_open.specs.OpenedLaws.{size_small}
 use Rattle.call_tallies.specs.TestLaws.{opened_counts}
 use Rattle.sheet_open.specs.TestedLaws.{slots_room, counts_number, tallies_ready, tested_by_counts, tested_out, tested_by_slots}

@@ -6,12 +6,12 @@ use native.Mathlib.Omega.{arith}
 use Rattle.store_layout.specs.Decode.{numbered}
 use Rattle.call_outcomes.specs.Untallied.{untallied_view, store_of}
 use Rattle.call_outcomes.specs.Plain.{tally_slice, plain_view, PlainLengths, plain_store_of}
-use Rattle.call_outcomes.specs.PlainLaws.{right_plain}
+use Rattle.call_outcomes.proofs.PlainLaws.{right_plain}
 use Rattle.call_outcomes.specs.Clubs.{clubs}
-use Rattle.call_outcomes.specs.ClubsLaws.{clubs_ready}
+use Rattle.call_outcomes.proofs.ClubsLaws.{clubs_ready}
 use Rattle.call_open.specs.Opening.{Opening, OpenedStore}
 use Rattle.call_open.specs.AdmittedLaws.{opened_store, plain_decoded, opened_sheet}
-use Rattle.call_open.specs.SliceOpeningLaws.{look_refused, look-not, look-sheet}
+use Rattle.call_open.specs.SliceOpeningLaws.{look_refused, look_not, look_sheet}
 use Rattle.sheet_open.specs.LengthLaws.{lengths_tested}
 use Rattle.sheet_open.specs.PlainOpeningLaws.{plain_wrong}
 use Rattle.sheet_clubs.proofs.open.Goals.{After-examine, After-right_lengths, Else-not-right_lengths, In-Sheet}
@@ -56,7 +56,7 @@ is_tallied-requires c =
 pub returns-then-not-is_tallied : goal.returns-then-not-is_tallied
 returns-then-not-is_tallied c =
     let a = c.args in (
-      look-not (untallied_view clubs) (tally_slice clubs) numbered (plain_store_of a.slots.now a.counts.now a.tallies.now) _ (right (goal.at.returns-then-not-is_tallied c).Else-not-right_lengths).tallies (sheet (goal.at.returns-then-not-is_tallied c).In-Sheet)
+      look_not (untallied_view clubs) (tally_slice clubs) numbered (plain_store_of a.slots.now a.counts.now a.tallies.now) _ (right (goal.at.returns-then-not-is_tallied c).Else-not-right_lengths).tallies (sheet (goal.at.returns-then-not-is_tallied c).In-Sheet)
           (sym ((rw c.widen.ensures at c.is_tallied.ensures) (sheet (goal.at.returns-then-not-is_tallied c).In-Sheet).contents (plain_decoded clubs _ (sheet (goal.at.returns-then-not-is_tallied c).In-Sheet).contents (sheet (goal.at.returns-then-not-is_tallied c).In-Sheet).decided)) ∙ c.if-not-is_tallied.true),
       record { same = λ e. c.widen.ensures },
     )
@@ -64,7 +64,7 @@ returns-then-not-is_tallied c =
 pub returns-else-not-is_tallied : goal.returns-else-not-is_tallied
 returns-else-not-is_tallied c =
     let a = c.args in (
-      look-sheet (untallied_view clubs) (tally_slice clubs) numbered (plain_store_of a.slots.now a.counts.now a.tallies.now) _ (right (goal.at.returns-else-not-is_tallied c).Else-not-right_lengths).tallies (sheet (goal.at.returns-else-not-is_tallied c).In-Sheet)
+      look_sheet (untallied_view clubs) (tally_slice clubs) numbered (plain_store_of a.slots.now a.counts.now a.tallies.now) _ (right (goal.at.returns-else-not-is_tallied c).Else-not-right_lengths).tallies (sheet (goal.at.returns-else-not-is_tallied c).In-Sheet)
           (sym ((rw c.widen.ensures at c.is_tallied.ensures) (sheet (goal.at.returns-else-not-is_tallied c).In-Sheet).contents (plain_decoded clubs _ (sheet (goal.at.returns-else-not-is_tallied c).In-Sheet).contents (sheet (goal.at.returns-else-not-is_tallied c).In-Sheet).decided)) ∙ c.if-not-is_tallied.false),
       record { same = λ e. c.widen.ensures },
     )

@@ -3,12 +3,12 @@ use mathlib.Core.Path.{◌≡◌, refl, sym, ◌∙◌}
 use native.Mathlib.Omega.{arith}
 use Rattle.call_outcomes.specs.Untallied.{store_of}
 use Rattle.call_outcomes.specs.Clubs.{clubs}
-use Rattle.call_outcomes.specs.ClubsLaws.{clubs_ready}
+use Rattle.call_outcomes.proofs.ClubsLaws.{clubs_ready}
 use Rattle.call_change.specs.SheetChange.{written}
-use Rattle.call_change.specs.SheetChangeLaws.{few, in_reach, update_ready, write-ready, before-few, change_ended}
+use Rattle.call_change.specs.SheetChangeLaws.{few, in_reach, update_ready, write_ready, before_few, change_ended}
 use Rattle.sheet_change.specs.Made.{PartMade}
 use Rattle.sheet_change.specs.PlainReady.{LeftSheet}
-use Rattle.sheet_change.specs.TallyLaws.{sheet_ready, counts_before, tallies_number, old_room, left-sheet, tallies-after, part-made, plain-made-by-slots, plain-made-by-counts, plain_ended}
+use Rattle.sheet_change.specs.TallyLaws.{sheet_ready, counts_before, tallies_number, old_room, left_sheet, tallies_after, part_made, plain_made_by_slots, plain_made_by_counts, plain_ended}
 use Rattle.sheet_clubs_change.specs.NarrowLaws.{left_counts, left_number}
 use Rattle.sheet_clubs_change.proofs.make.Goals.{After-write_small}
 use Rattle.sheet_clubs_change.proofs.make.Goals as goal
@@ -23,12 +23,12 @@ written_is c = rw c.requires.same at c.write_small.ensures
 -- The sheet that is left.
 left : (c : After-write_small) → let a = c.args in
     LeftSheet clubs c.in-Done.size c.write_small.new.slots c.write_small.new.counts a.tallies.now
-left c = left-sheet clubs_ready c.requires.sheet _ _ _ c.update.ensures _ _ _ c.in-Done.is (written_is c)
+left c = left_sheet clubs_ready c.requires.sheet _ _ _ c.update.ensures _ _ _ c.in-Done.is (written_is c)
 
 -- What the change leaves outside of its part.
 made_in : (c : After-write_small) → let a = c.args in
     PartMade a.m c.in-Done.size c.in-Done.part a.slots.now c.write_small.new.slots c.write_small.new.counts
-made_in c = part-made clubs_ready c.requires.sheet _ _ _ c.update.ensures _ _ _ c.in-Done.is (written_is c)
+made_in c = part_made clubs_ready c.requires.sheet _ _ _ c.update.ensures _ _ _ c.in-Done.is (written_is c)
 
 pub count_after-after-requires : goal.count_after-after-requires
 count_after-after-requires c =
@@ -43,7 +43,7 @@ update-requires c = update_ready clubs_ready (sheet_ready clubs_ready c.requires
 
 pub write_small-requires : goal.write_small-requires
 write_small-requires c =
-    let p = sheet_ready clubs_ready c.requires.sheet in record { ready = rw c.requires.same (write-ready clubs_ready p _ _ _ c.update.ensures _ _ _ c.in-Done.is); most = before-few clubs_ready p _ _ _ c.update.ensures _ _ _ c.in-Done.is }
+    let p = sheet_ready clubs_ready c.requires.sheet in record { ready = rw c.requires.same (write_ready clubs_ready p _ _ _ c.update.ensures _ _ _ c.in-Done.is); most = before_few clubs_ready p _ _ _ c.update.ensures _ _ _ c.in-Done.is }
 
 pub narrow-requires : goal.narrow-requires
 narrow-requires c =
@@ -57,12 +57,12 @@ narrow_counts-requires c =
 pub write_tallies-requires : goal.write_tallies-requires
 write_tallies-requires c =
     let pre = c.requires.sheet in
-    record { old = old_room clubs_ready pre; tallies = tallies_number clubs_ready pre; left = left (goal.at.write_tallies-requires c).After-write_small; ready = tallies-after clubs_ready pre _ _ _ c.update.ensures _ _ _ c.in-Done.is (written_is (goal.at.write_tallies-requires c).After-write_small) refl }
+    record { old = old_room clubs_ready pre; tallies = tallies_number clubs_ready pre; left = left (goal.at.write_tallies-requires c).After-write_small; ready = tallies_after clubs_ready pre _ _ _ c.update.ensures _ _ _ c.in-Done.is (written_is (goal.at.write_tallies-requires c).After-write_small) refl }
 
 pub returns-then-scoring : goal.returns-then-scoring
 returns-then-scoring c =
     rw c.narrow.ensures (
-      plain-made-by-counts clubs_ready c.requires.sheet _ _ _ c.update.ensures _ _ _ c.in-Done.is (written_is (goal.at.returns-then-scoring c).After-write_small) (sym c.all_score-scoring.ensures ∙ c.if-scoring.true) _
+      plain_made_by_counts clubs_ready c.requires.sheet _ _ _ c.update.ensures _ _ _ c.in-Done.is (written_is (goal.at.returns-then-scoring c).After-write_small) (sym c.all_score-scoring.ensures ∙ c.if-scoring.true) _
           c.count_after-after.ensures c.narrow_counts.ensures,
       made_in (goal.at.returns-then-scoring c).After-write_small,
     )
@@ -70,7 +70,7 @@ returns-then-scoring c =
 pub returns-else-scoring : goal.returns-else-scoring
 returns-else-scoring c =
     rw c.narrow.ensures (
-      plain-made-by-slots clubs_ready c.requires.sheet _ _ _ c.update.ensures _ _ _ c.in-Done.is (written_is (goal.at.returns-else-scoring c).After-write_small) _ c.count_after-after.ensures c.write_tallies.ensures,
+      plain_made_by_slots clubs_ready c.requires.sheet _ _ _ c.update.ensures _ _ _ c.in-Done.is (written_is (goal.at.returns-else-scoring c).After-write_small) _ c.count_after-after.ensures c.write_tallies.ensures,
       made_in (goal.at.returns-else-scoring c).After-write_small,
     )
 

@@ -5,7 +5,7 @@ use Prim.Native.Nat.{ℕ}
 use lib.ListN.{length}
 use Rattle.tree_sizes.specs.Sizes.{height}
 use Rattle.store_order.specs.CountOrder.{count_order}
-use Rattle.store_order.specs.CountOrderLaws.{length_number_order}
+use Rattle.store_order.proofs.CountOrderLaws.{length_number_order}
 use Rattle.store_tallies.specs.TalliesIn.{TalliesIn}
 use Rattle.sheet_clubs_change.specs.NarrowLaws.{left_tallies, left_tallies_number}
 use Rattle.sheet_clubs_change.proofs.write_tallies.Goals.{After-write_tallies}

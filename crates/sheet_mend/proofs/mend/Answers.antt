@@ -5,12 +5,12 @@ use native.Mathlib.Omega.{arith}
 use lib.ListN.{get_or}
 use Rattle.call_outcomes.specs.Untallied.{store_of}
 use Rattle.call_outcomes.specs.Plain.{plain_view, PlainLengths, plain_store_of}
-use Rattle.call_outcomes.specs.PlainLaws.{right_plain}
+use Rattle.call_outcomes.proofs.PlainLaws.{right_plain}
 use Rattle.call_outcomes.specs.Clubs.{clubs}
-use Rattle.call_outcomes.specs.ClubsLaws.{clubs_ready}
+use Rattle.call_outcomes.proofs.ClubsLaws.{clubs_ready}
 use Rattle.call_open.specs.Opening.{OpenedSheet}
 use Rattle.sheet_open.specs.LengthLaws.{lengths_tested}
-use Rattle.sheet_recount.specs.MendLaws.{mend_lengths, mend_none, mend-made}
+use Rattle.sheet_recount.specs.MendLaws.{mend_lengths, mend_none, mend_made}
 use Rattle.sheet_mend.proofs.mend.Goals.{After-right_lengths, Else-not-right_lengths, In-Sheet}
 use Rattle.sheet_mend.proofs.mend.Goals as goal
 
@@ -50,7 +50,7 @@ put_in-requires c =
 
 pub returns-in-Sheet : goal.returns-in-Sheet
 returns-in-Sheet c =
-    mend-made clubs_ready _ _ _ (right (goal.at.returns-in-Sheet c).Else-not-right_lengths) (found (goal.at.returns-in-Sheet c).In-Sheet).0 (found (goal.at.returns-in-Sheet c).In-Sheet).1 c.put_in.ensures.0 c.put_in.ensures.1
+    mend_made clubs_ready _ _ _ (right (goal.at.returns-in-Sheet c).Else-not-right_lengths) (found (goal.at.returns-in-Sheet c).In-Sheet).0 (found (goal.at.returns-in-Sheet c).In-Sheet).1 c.put_in.ensures.0 c.put_in.ensures.1
 
 pub returns-in-Refused : goal.returns-in-Refused
 returns-in-Refused c =

@@ -3,7 +3,7 @@ use mathlib.Core.Path.{refl, sym, ◌∙◌, subst}
 use native.Mathlib.Omega.{arith}
 use Rattle.call_outcomes.specs.Plain.{plain_store_of}
 use Rattle.call_outcomes.specs.Clubs.{clubs}
-use Rattle.call_outcomes.specs.ClubsLaws.{clubs_ready}
+use Rattle.call_outcomes.proofs.ClubsLaws.{clubs_ready}
 use Rattle.call_open.specs.OpenedLaws.{laid}
 use Rattle.sheet_clubs.specs.SmallLaws.{Small, sheet_small}
 use Rattle.sheet_recount.specs.Recount.{TalliesOf}

@@ -5,7 +5,7 @@ use Rattle.call_outcomes.specs.Untallied.{untallied_view, store_of}
 use Rattle.call_outcomes.specs.Plain.{tally_slice, plain_store_of}
 use Rattle.call_open.specs.Opening.{OpenedStore, OpenedSheet}
 use Rattle.call_open.specs.AdmittedLaws.{opened_store, plain_decoded, opened_sheet}
-use Rattle.call_open.specs.SliceOpeningLaws.{look_lengths, look_refused, look-not, look-sheet}
+use Rattle.call_open.specs.SliceOpeningLaws.{look_lengths, look_refused, look_not, look_sheet}
 use Rattle.sheet_open.specs.PlainOpeningLaws.{plain_refused, plain_sheet}
 use Rattle.sheet_open.proofs.examine.Goals.{In-Sheet}
 use Rattle.sheet_open.proofs.examine.Goals as goal
@@ -32,7 +32,7 @@ pub returns-then-not-is_tallied : goal.returns-then-not-is_tallied
 returns-then-not-is_tallied c =
     let a = c.args in
     plain_refused
-    (look-not (untallied_view a.cap) (tally_slice a.cap) numbered (plain_store_of a.slots.now a.counts.now a.tallies.now) _ c.if-tallies-cap.false (sheet (goal.at.returns-then-not-is_tallied c).In-Sheet)
+    (look_not (untallied_view a.cap) (tally_slice a.cap) numbered (plain_store_of a.slots.now a.counts.now a.tallies.now) _ c.if-tallies-cap.false (sheet (goal.at.returns-then-not-is_tallied c).In-Sheet)
     (sym (c.is_tallied.ensures.0 (sheet (goal.at.returns-then-not-is_tallied c).In-Sheet).contents (plain_decoded a.cap _ (sheet (goal.at.returns-then-not-is_tallied c).In-Sheet).contents (sheet (goal.at.returns-then-not-is_tallied c).In-Sheet).decided)) ∙ c.if-not-is_tallied.true))
 
 pub returns-else-not-is_tallied : goal.returns-else-not-is_tallied
@@ -40,7 +40,7 @@ returns-else-not-is_tallied c =
     let a = c.args in
     let passed = c.if-not-is_tallied.false in
     plain_sheet
-    (look-sheet (untallied_view a.cap) (tally_slice a.cap) numbered (plain_store_of a.slots.now a.counts.now a.tallies.now) _ c.if-tallies-cap.false (sheet (goal.at.returns-else-not-is_tallied c).In-Sheet)
+    (look_sheet (untallied_view a.cap) (tally_slice a.cap) numbered (plain_store_of a.slots.now a.counts.now a.tallies.now) _ c.if-tallies-cap.false (sheet (goal.at.returns-else-not-is_tallied c).In-Sheet)
     (sym (c.is_tallied.ensures.0 (sheet (goal.at.returns-else-not-is_tallied c).In-Sheet).contents (plain_decoded a.cap _ (sheet (goal.at.returns-else-not-is_tallied c).In-Sheet).contents (sheet (goal.at.returns-else-not-is_tallied c).In-Sheet).decided)) ∙ passed))
     (c.is_tallied.ensures.1 passed)
 

@@ -6,11 +6,11 @@ use lib.ListN.{get_or}
 use Rattle.base.specs.Lists.{Every}
 use Rattle.base.specs.ListLaws.{every_from}
 use Rattle.tree_sizes.specs.Sizes.{height}
-use Rattle.store_order.specs.CountOrderLaws.{every_count_order}
+use Rattle.store_order.proofs.CountOrderLaws.{every_count_order}
 use Rattle.call_outcomes.specs.Clubs.{clubs}
-use Rattle.call_outcomes.specs.ClubsLaws.{clubs_roomy}
+use Rattle.call_outcomes.proofs.ClubsLaws.{clubs_roomy}
 use Rattle.call_orders.specs.Conversion.{to_tree, Convertible}
-use Rattle.call_orders.specs.ConversionLaws.{conversion_lengths, conversion_size, tree_room}
+use Rattle.call_orders.proofs.ConversionLaws.{conversion_lengths, conversion_size, tree_room}
 use Rattle.sheet_orders.specs.ConvertLaws.{tree_order_done}
 use Rattle.sheet_orders.proofs.to_tree_order.Goals.{Else-m-gt2047}
 use Rattle.sheet_orders.proofs.to_tree_order.Goals as goal

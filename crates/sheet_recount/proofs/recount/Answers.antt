@@ -3,7 +3,7 @@ use mathlib.Core.Path.{◌≡◌, sym, ap, ◌∙◌}
 use Prim.Native.Nat.{ℕ, ◌-◌, ◌*◌, ◌≤◌}
 use native.Mathlib.Omega.{arith}
 use lib.ListN.{length, length-replicate}
-use Rattle.sheet_recount.specs.RecountLaws.{recounted_large, slots_room, counts_room, recounted-sheet, recounted-none}
+use Rattle.sheet_recount.specs.RecountLaws.{recounted_large, slots_room, counts_room, recounted_sheet, recounted_none}
 use Rattle.sheet_recount.proofs.recount.Goals.{Else-greatest_size-m, Start}
 use Rattle.sheet_recount.proofs.recount.Goals as goal
 
@@ -33,10 +33,10 @@ examine-requires c =
 
 pub returns-in-Sheet : goal.returns-in-Sheet
 returns-in-Sheet c =
-    recounted-sheet c.requires.ready c.args.slots.now c.args.m c.requires.slots (within (goal.at.returns-in-Sheet c).Else-greatest_size-m) _ c.count_entries.ensures.0
+    recounted_sheet c.requires.ready c.args.slots.now c.args.m c.requires.slots (within (goal.at.returns-in-Sheet c).Else-greatest_size-m) _ c.count_entries.ensures.0
     (c.count_entries.ensures.1 ∙ work_length (goal.at.returns-in-Sheet c).Start) _ c.write_counts.ensures _ _ c.examine.ensures _ _ c.in-Sheet.is
 
 pub returns-in-Refused : goal.returns-in-Refused
 returns-in-Refused c =
-    recounted-none c.requires.ready c.args.slots.now c.args.m c.requires.slots (within (goal.at.returns-in-Refused c).Else-greatest_size-m) _ c.count_entries.ensures.0
+    recounted_none c.requires.ready c.args.slots.now c.args.m c.requires.slots (within (goal.at.returns-in-Refused c).Else-greatest_size-m) _ c.count_entries.ensures.0
     (c.count_entries.ensures.1 ∙ work_length (goal.at.returns-in-Refused c).Start) _ c.write_counts.ensures _ _ c.examine.ensures _ c.in-Refused.is

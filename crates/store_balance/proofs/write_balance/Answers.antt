@@ -5,7 +5,7 @@ use native.Mathlib.Omega.{arith}
 use lib.ListN.{length}
 use lib.Pow.{pow_pos}
 use Rattle.tree_sizes.specs.Sizes.{height}
-use Rattle.tree_sizes.specs.SizeLaws.{height_most}
+use Rattle.tree_sizes.proofs.SizeLaws.{height_most}
 use Rattle.store_balance.specs.RowLaws.{rows_none, rows_next, rows_all, row_room, row_small}
 use Rattle.store_balance.proofs.write_balance.Goals.{After-height-levels, After-power, In-loop-levels}
 use Rattle.store_balance.proofs.write_balance.Goals as goal

@@ -5,7 +5,7 @@ use native.Mathlib.Omega.{arith}
 use lib.ListN.{length, length-set}
 use lib.Pow.{pow_mono}
 use Rattle.tree_sizes.specs.Sizes.{height}
-use Rattle.tree_sizes.specs.SizeLaws.{height_most}
+use Rattle.tree_sizes.proofs.SizeLaws.{height_most}
 use Rattle.store_balance_part.specs.Update.{RightFrom, entry_from}
 use Rattle.store_balance_part.specs.RightLaws.{right_above}
 use Rattle.store_balance_part.specs.UpdateLaws.{but_start, but_next, but_none, leaf_small}

@@ -1,6 +1,6 @@
 -- `put_numbers` meets its contract.
 use native.Mathlib.Omega.{arith}
-use Rattle.tree_sizes.specs.SizeLaws.{height_most}
+use Rattle.tree_sizes.proofs.SizeLaws.{height_most}
 use Rattle.store_counts.proofs.put_numbers.Goals as goal
 
 pub write_rows-requires : goal.write_rows-requires

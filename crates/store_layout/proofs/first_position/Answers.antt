@@ -4,7 +4,7 @@ use native.Mathlib.Omega.{arith}
 use borrow.Author.Rules.{rules}
 use Rattle.base.specs.CaseLaws.{if_lt_no}
 use Rattle.store_layout.specs.Quotient.{position_of}
-use Rattle.store_layout.specs.QuotientLaws.{odd_most, step_rest, first_half}
+use Rattle.store_layout.proofs.QuotientLaws.{odd_most, step_rest, first_half}
 use Rattle.store_layout.proofs.first_position.Goals as goal
 
 pub returns-then-n-eq0 : goal.returns-then-n-eq0

@@ -2,7 +2,7 @@
 use Prim.Native.Nat.{◌<◌}
 use lib.ListN.{length}
 use native.Mathlib.Omega.{arith}
-use Rattle.store_layout.specs.GatherLoop.{gathered_none, gathered-zero, gather_room, gathered-entry, gathered_all}
+use Rattle.store_layout.proofs.GatherLoop.{gathered_none, gathered_zero, gather_room, gathered_entry, gathered_all}
 use Rattle.store_layout.proofs.gather.Goals.{At-loop-i}
 use Rattle.store_layout.proofs.gather.Goals as goal
 
@@ -24,11 +24,11 @@ overflow_add-n c = omega (arith, room (goal.at.overflow_add-n c).At-loop-i)
 
 pub loop-i-preserved-then-held-ne0 : goal.loop-i-preserved-then-held-ne0
 loop-i-preserved-then-held-ne0 c =
-    (gathered-entry c.requires c.loop-i.i c.loop-i.invariant.0 (omega arith) c.if-held-ne0.true, omega arith)
+    (gathered_entry c.requires c.loop-i.i c.loop-i.invariant.0 (omega arith) c.if-held-ne0.true, omega arith)
 
 pub loop-i-preserved : goal.loop-i-preserved
 loop-i-preserved c =
-    (gathered-zero c.requires c.loop-i.i c.loop-i.invariant.0 (omega arith) c.if-held-ne0.false, omega arith)
+    (gathered_zero c.requires c.loop-i.i c.loop-i.invariant.0 (omega arith) c.if-held-ne0.false, omega arith)
 
 pub returns : goal.returns
 returns c = gathered_all c.requires c.loop-i.i (omega arith) c.loop-i.invariant.0

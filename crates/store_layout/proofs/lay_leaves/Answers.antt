@@ -1,7 +1,7 @@
 -- `lay_leaves` meets its contract. The loop's invariant: j leaves are laid out (`Laid`).
 use native.Mathlib.Omega.{arith}
 use Rattle.store_layout.specs.Ready.{LeafReady}
-use Rattle.store_layout.specs.LeavesLoop.{laid_none, laid_more, laid_all, leaf_ready, slots-left}
+use Rattle.store_layout.proofs.LeavesLoop.{laid_none, laid_more, laid_all, leaf_ready, slots_left}
 use Rattle.store_layout.proofs.lay_leaves.Goals.{After-count_at-n}
 use Rattle.store_layout.proofs.lay_leaves.Goals as goal
 
@@ -24,7 +24,7 @@ pub overflow_add-to : goal.overflow_add-to
 overflow_add-to c =
     omega (
       arith,
-      slots-left c.requires c.loop-j.invariant.0 c.loop-j.invariant.1 c.loop-j-test.true c.count_at-n.ensures,
+      slots_left c.requires c.loop-j.invariant.0 c.loop-j.invariant.1 c.loop-j-test.true c.count_at-n.ensures,
     )
 
 pub overflow_add-at : goal.overflow_add-at

@@ -1,7 +1,7 @@
 -- `lay_leaves` meets its contract. The loop's invariant: j leaves are laid out (`Laid`).
 use Prim.Native.Nat.{◌-◌, ◌≤◌}
 use lib.ListN.{take, drop}
-use Rattle.store_layout.specs.LeavesLoop.{Laid}
+use Rattle.store_layout.proofs.LeavesLoop.{Laid}
 use Rattle.store_layout.proofs.lay_leaves.Given as goal
 
 abbrev pub invariant-loop-j : goal.invariant-loop-j

@@ -5,7 +5,7 @@ use native.Mathlib.Nat.{mod-le}
 use borrow.Author.Rules.{rules}
 use Rattle.store_layout.specs.declared.Quotient.{Quotient}
 use Rattle.store_layout.specs.Quotient.{divided}
-use Rattle.store_layout.specs.QuotientLaws.{step_is}
+use Rattle.store_layout.proofs.QuotientLaws.{step_is}
 use Rattle.store_layout.proofs.position_step.Goals as goal
 
 pub overflow_mul-result : goal.overflow_mul-result

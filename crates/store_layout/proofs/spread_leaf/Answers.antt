@@ -2,7 +2,7 @@
 use mathlib.Core.Path.{refl, ◌∙◌}
 use native.Mathlib.Omega.{arith}
 use borrow.Author.Rules.{rules}
-use Rattle.store_layout.specs.LeafLoop.{so_far_none, so_far_more, so_far_all}
+use Rattle.store_layout.proofs.LeafLoop.{so_far_none, so_far_more, so_far_all}
 use Rattle.store_layout.proofs.spread_leaf.Goals as goal
 
 pub position_step-step-requires : goal.position_step-step-requires

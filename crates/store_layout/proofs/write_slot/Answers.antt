@@ -1,7 +1,7 @@
 -- `write_slot` meets its contract.
 use native.Mathlib.Omega.{arith}
-use Rattle.store_layout.specs.QuotientLaws.{next_room, next_stands}
-use Rattle.store_layout.specs.LeafLoop.{entry_left, entry_written, gap_written}
+use Rattle.store_layout.proofs.QuotientLaws.{next_room, next_stands}
+use Rattle.store_layout.proofs.LeafLoop.{entry_left, entry_written, gap_written}
 use Rattle.store_layout.proofs.write_slot.Goals as goal
 
 pub bounds-list-leaf : goal.bounds-list-leaf

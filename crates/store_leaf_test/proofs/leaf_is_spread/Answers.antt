@@ -9,7 +9,7 @@ use borrow.Author.Count.{below_more}
 use Rattle.store_layout.specs.Leaf.{slot_of}
 use Rattle.store_leaf_test.specs.LeafCheck.{other_number, place_empty, places_full}
 use Rattle.store_leaf_test.specs.Ready.{LeafTestReady}
-use Rattle.store_layout.specs.QuotientLaws.{stands_slot, stands_inside, next_room, next_stands}
+use Rattle.store_layout.proofs.QuotientLaws.{stands_slot, stands_inside, next_room, next_stands}
 use Rattle.store_leaf_test.proofs.leaf_is_spread.Goals.{In-loop-k}
 use Rattle.store_leaf_test.proofs.leaf_is_spread.Goals as goal
 

@@ -7,7 +7,7 @@ use native.Mathlib.Omega.{arith}
 use Rattle.store_leaf_test.specs.Ready.{LeafTestReady}
 use Rattle.store_masks.specs.Mask.{masks}
 use Rattle.store_masks.specs.MaskLaws.{length_masks}
-use Rattle.store_leaf_test.specs.LeavesCheck.{remaining_all, remaining_none, next-leaf, remaining-right, remaining-wrong}
+use Rattle.store_leaf_test.specs.LeavesCheck.{remaining_all, remaining_none, next_leaf, remaining_right, remaining_wrong}
 use Rattle.store_leaf_test.specs.MaskCheck.{mask_right, mask_wrong}
 use Rattle.store_leaf_test.proofs.leaves_have_masks.Goals.{After-count_at-n, then-taken-table, else-taken-table}
 use Rattle.store_leaf_test.proofs.leaves_have_masks.Goals as goal
@@ -17,7 +17,7 @@ ready : (c : After-count_at-n)
     → let a = c.args in
     LeafTestReady a.slots.now c.loop-j.from (3 * a.g) c.count_at-n.result
 ready c =
-    next-leaf c.requires.ready c.loop-j.invariant c.loop-j-test.true c.count_at-n.ensures
+    next_leaf c.requires.ready c.loop-j.invariant c.loop-j-test.true c.count_at-n.ensures
 
 pub loop-j-init : goal.loop-j-init
 loop-j-init c = remaining_all c.requires.ready
@@ -42,11 +42,11 @@ loop-j-preserved c =
     elim c.if-taken-table.branch [
       | then-taken-table w ↦
           rw w.all-is
-          (remaining-wrong c.requires.ready c.loop-j.invariant c.loop-j-test.true c.count_at-n.ensures refl
+          (remaining_wrong c.requires.ready c.loop-j.invariant c.loop-j-test.true c.count_at-n.ensures refl
           (mask_wrong (ready (goal.at.loop-j-preserved c).After-count_at-n) c.taken_slots-taken.ensures told w.if-taken-table.true))
       | else-taken-table w ↦
           rw w.all-is
-          (remaining-right c.requires.ready c.loop-j.invariant c.loop-j-test.true c.count_at-n.ensures refl
+          (remaining_right c.requires.ready c.loop-j.invariant c.loop-j-test.true c.count_at-n.ensures refl
           (mask_right (ready (goal.at.loop-j-preserved c).After-count_at-n) c.taken_slots-taken.ensures told w.if-taken-table.false))
     ]
 

@@ -3,7 +3,7 @@ use mathlib.Core.Path.{sym}
 use mathlib.Core.Bool.{true}
 use native.Mathlib.Omega.{arith}
 use Rattle.store_leaf_test.specs.Ready.{LeafTestReady}
-use Rattle.store_leaf_test.specs.LeavesCheck.{remaining_all, remaining_none, next-leaf, remaining-right, remaining-wrong, remaining_broken}
+use Rattle.store_leaf_test.specs.LeavesCheck.{remaining_all, remaining_none, next_leaf, remaining_right, remaining_wrong, remaining_broken}
 use Rattle.store_leaf_test.proofs.leaves_one_by_one.Goals.{After-count_at-n}
 use Rattle.store_leaf_test.proofs.leaves_one_by_one.Goals as goal
 
@@ -12,7 +12,7 @@ ready : (c : After-count_at-n)
     → let a = c.args in
     LeafTestReady a.slots.now c.loop-j.from a.s c.count_at-n.result
 ready c =
-    next-leaf c.requires c.loop-j.invariant c.loop-j-test.true c.count_at-n.ensures
+    next_leaf c.requires c.loop-j.invariant c.loop-j-test.true c.count_at-n.ensures
 
 pub loop-j-init : goal.loop-j-init
 loop-j-init c = remaining_all c.requires
@@ -24,7 +24,7 @@ pub returns-then-not-leaf_is_spread : goal.returns-then-not-leaf_is_spread
 returns-then-not-leaf_is_spread c =
     sym
     (remaining_broken c.requires
-    (remaining-wrong c.requires c.loop-j.invariant c.loop-j-test.true c.count_at-n.ensures
+    (remaining_wrong c.requires c.loop-j.invariant c.loop-j-test.true c.count_at-n.ensures
     c.leaf_is_spread.ensures c.if-not-leaf_is_spread.true))
 
 pub overflow_add-from : goal.overflow_add-from
@@ -32,7 +32,7 @@ overflow_add-from c = omega (arith, (ready (goal.at.overflow_add-from c).After-c
 
 pub loop-j-preserved : goal.loop-j-preserved
 loop-j-preserved c =
-    remaining-right c.requires c.loop-j.invariant c.loop-j-test.true c.count_at-n.ensures
+    remaining_right c.requires c.loop-j.invariant c.loop-j-test.true c.count_at-n.ensures
     c.leaf_is_spread.ensures c.if-not-leaf_is_spread.false
 
 pub returns : goal.returns

@@ -2,7 +2,7 @@
 use Prim.Native.Nat.{◌*◌, ◌-◌}
 use mathlib.Core.Path.{◌≡◌}
 use native.Mathlib.Omega.{arith}
-use Rattle.tree_sizes.specs.SizeLaws.{height_most}
+use Rattle.tree_sizes.proofs.SizeLaws.{height_most}
 use Rattle.store_part.specs.Region.{leaves_before}
 use Rattle.store_part.specs.RegionLaws.{leaves_before_small}
 use Rattle.store_part.proofs.region_before.Goals.{After-region_leaves}

@@ -1,6 +1,6 @@
 -- `region_leaves` meets its contract.
 use native.Mathlib.Omega.{arith}
-use Rattle.tree_sizes.specs.SizeLaws.{height_most}
+use Rattle.tree_sizes.proofs.SizeLaws.{height_most}
 use Rattle.store_part.specs.Region.{leaves_of}
 use Rattle.store_part.proofs.region_leaves.Goals as goal
 

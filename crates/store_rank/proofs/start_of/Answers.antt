@@ -4,7 +4,7 @@ use Prim.Native.Nat.{◌+◌, ◌*◌, ◌^◌, ◌<◌}
 use native.Mathlib.Omega.{arith}
 use lib.ListN.{length}
 use Rattle.tree_sizes.specs.Sizes.{height}
-use Rattle.tree_sizes.specs.SizeLaws.{height_most}
+use Rattle.tree_sizes.proofs.SizeLaws.{height_most}
 use Rattle.store_rank.specs.Descent.{Descent}
 use Rattle.store_rank.specs.DescentLaws.{descent_root, descent_halves, descent_left, descent_right, descent_leaf, descent_small, descent_start}
 use Rattle.store_rank.proofs.start_of.Goals.{After-loop-levels, After-power, In-loop-levels}

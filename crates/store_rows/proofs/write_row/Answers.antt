@@ -4,7 +4,7 @@ use Prim.Native.Nat.{◌+◌, ◌*◌, ◌^◌, ◌≤◌, ◌<◌}
 use native.Mathlib.Omega.{arith}
 use lib.ListN.{length}
 use lib.Pow.{pow_mono}
-use Rattle.store_order.specs.CountOrderLaws.{place_low}
+use Rattle.store_order.proofs.CountOrderLaws.{place_low}
 use Rattle.store_rows.specs.RowLaws.{none_written, next_written}
 use Rattle.store_rows.proofs.write_row.Goals.{After-place_of-place, After-shared_slice_known-in-loop-k-1, In-loop-k, Start}
 use Rattle.store_rows.proofs.write_row.Goals as goal

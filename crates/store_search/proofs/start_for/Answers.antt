@@ -4,7 +4,7 @@ use Prim.Native.Nat.{ℕ, ◌+◌, ◌*◌, ◌^◌, ◌<◌}
 use native.Mathlib.Omega.{arith}
 use lib.ListN.{get_or}
 use Rattle.tree_sizes.specs.Sizes.{height}
-use Rattle.tree_sizes.specs.SizeLaws.{height_most}
+use Rattle.tree_sizes.proofs.SizeLaws.{height_most}
 use Rattle.store_search.specs.Descent.{Descent}
 use Rattle.store_search.specs.DescentLaws.{descent_root, descent_halves, descent_left, descent_right, descent_leaf, descent_small, descent_start}
 use Rattle.store_search.proofs.start_for.Goals.{After-count_at-n, After-loop-levels, After-power, After-shared_slice_known-1, In-loop-levels}

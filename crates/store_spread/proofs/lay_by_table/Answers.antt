@@ -4,7 +4,7 @@ use Prim.Native.Nat.{◌+◌, ◌<◌}
 use lib.ListN.{length}
 use native.Mathlib.Omega.{arith}
 use borrow.Author.Rules.{rules}
-use Rattle.store_layout.specs.LeavesLoop.{laid_none, laid_all, slots-left}
+use Rattle.store_layout.proofs.LeavesLoop.{laid_none, laid_all, slots_left}
 use Rattle.store_spread.specs.LeavesTableLaws.{restored, end_room, row_room, table_ready, laid_next}
 use Rattle.store_spread.proofs.lay_by_table.Goals.{After-count_at-n}
 use Rattle.store_spread.proofs.lay_by_table.Goals as goal
@@ -59,7 +59,7 @@ pub overflow_add-to : goal.overflow_add-to
 overflow_add-to c =
     omega (
       arith,
-      slots-left c.requires.ready c.loop-j.invariant.0 c.loop-j.invariant.1 c.loop-j-test.true c.count_at-n.ensures,
+      slots_left c.requires.ready c.loop-j.invariant.0 c.loop-j.invariant.1 c.loop-j-test.true c.count_at-n.ensures,
     )
 
 pub loop-j-preserved : goal.loop-j-preserved

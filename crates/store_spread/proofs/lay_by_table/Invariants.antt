@@ -2,7 +2,7 @@
 use mathlib.Core.Path.{◌≡◌}
 use Prim.Native.Nat.{◌-◌, ◌≤◌}
 use lib.ListN.{take, drop}
-use Rattle.store_layout.specs.LeavesLoop.{Laid}
+use Rattle.store_layout.proofs.LeavesLoop.{Laid}
 use Rattle.store_spread.proofs.lay_by_table.Given as goal
 
 abbrev pub invariant-loop-j : goal.invariant-loop-j

@@ -1,7 +1,7 @@
 -- `spread_leaf` meets its contract. The loop's invariant: the leaf's slots up to i are written, and its later ones are as they were.
 use mathlib.Core.Path.{refl, ◌∙◌}
 use native.Mathlib.Omega.{arith}
-use Rattle.store_layout.specs.LeafLoop.{written_none, written_on, written_again, written_all}
+use Rattle.store_layout.proofs.LeafLoop.{written_none, written_on, written_again, written_all}
 use Rattle.store_spread.specs.SlotEntriesLaws.{ready_still}
 use Rattle.store_spread.proofs.spread_leaf.Goals as goal
 

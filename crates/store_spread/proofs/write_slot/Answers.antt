@@ -2,7 +2,7 @@
 use Prim.Native.Nat.{◌+◌, ◌<◌}
 use lib.ListN.{length, get_or}
 use native.Mathlib.Omega.{arith}
-use Rattle.store_layout.specs.LeafLoop.{slot_written}
+use Rattle.store_layout.proofs.LeafLoop.{slot_written}
 use Rattle.store_spread.specs.SlotEntriesLaws.{table_slot}
 use Rattle.store_spread.proofs.write_slot.Goals.{Start}
 use Rattle.store_spread.proofs.write_slot.Goals as goal

@@ -8,7 +8,7 @@ use lib.Pow.{pow_pos}
 use lib.Seq.{get_or-set_same, get_or-set_other}
 use Rattle.base.specs.ListLaws.{replicate_at}
 use Rattle.tree_sizes.specs.Sizes.{height}
-use Rattle.tree_sizes.specs.SizeLaws.{height_most}
+use Rattle.tree_sizes.proofs.SizeLaws.{height_most}
 use Rattle.store_sums.specs.Numbers.{number_at, NumbersBut}
 use Rattle.store_sums.specs.Updating.{Filled, RowsReady}
 use Rattle.store_sums.specs.SumLaws.{length_additive}

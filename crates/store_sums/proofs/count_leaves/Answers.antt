@@ -4,7 +4,7 @@ use Prim.Native.Nat.{ℕ, ◌+◌, ◌-◌, ◌*◌, ◌^◌, ◌≤◌}
 use native.Mathlib.Omega.{arith}
 use lib.ListN.{length}
 use Rattle.tree_sizes.specs.Sizes.{height, slots}
-use Rattle.tree_sizes.specs.SizeLaws.{height_most, leaf_slots_most, slots_le}
+use Rattle.tree_sizes.proofs.SizeLaws.{height_most, leaf_slots_most, slots_le}
 use Rattle.store_sums.specs.SumLaws.{number_leaf, leaf_room, slots_few, length_additive}
 use Rattle.store_sums.specs.UpdatingLaws.{filled_none, filled_next, filled_by}
 use Rattle.store_sums.proofs.count_leaves.Goals.{After-power-leaves, In-loop-k}

@@ -5,7 +5,7 @@ use native.Mathlib.Omega.{arith}
 use lib.ListN.{length, take, drop, length-take, length-drop}
 use lib.Seq.{get_or-drop}
 use Rattle.store_layout.specs.Leaf.{nonzero}
-use Rattle.store_layout.specs.LeafLaws.{nonzero_length, number_next}
+use Rattle.store_layout.proofs.LeafLaws.{nonzero_length, number_next}
 use Rattle.store_sums.proofs.entries_in.Goals.{After-entry_in-entries}
 use Rattle.store_sums.proofs.entries_in.Goals as goal
 

@@ -4,7 +4,7 @@ use mathlib.Core.List.{[]}
 use native.Mathlib.Omega.{arith}
 use lib.ListN.{length}
 use Rattle.store_layout.specs.Leaf.{nonzero}
-use Rattle.store_layout.specs.LeafLaws.{nonzero_zero, nonzero_entry}
+use Rattle.store_layout.proofs.LeafLaws.{nonzero_zero, nonzero_entry}
 use Rattle.store_sums.proofs.entry_in.Goals as goal
 
 pub returns-then-slot-eq0 : goal.returns-then-slot-eq0

@@ -5,7 +5,7 @@ use native.Mathlib.Omega.{arith}
 use lib.Pow.{pow_pos}
 use Rattle.base.specs.BoolLaws.{not_both, fails}
 use Rattle.tree_sizes.specs.Sizes.{height}
-use Rattle.tree_sizes.specs.SizeLaws.{height_most}
+use Rattle.tree_sizes.proofs.SizeLaws.{height_most}
 use Rattle.store_zeros.specs.ZeroLaws.{zero_behind, zero_behind_test}
 use Rattle.store_sums.specs.AddUpLaws.{adds_up, leaves_agree, halves_agree}
 use Rattle.store_tallies.specs.AdditiveLaws.{tally_additive}

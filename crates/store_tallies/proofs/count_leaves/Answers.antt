@@ -5,7 +5,7 @@ use Prim.Native.Nat.{ℕ, ◌+◌, ◌-◌, ◌*◌, ◌^◌, ◌≤◌}
 use native.Mathlib.Omega.{arith}
 use lib.ListN.{length}
 use Rattle.tree_sizes.specs.Sizes.{height, slots}
-use Rattle.tree_sizes.specs.SizeLaws.{height_most, leaf_slots_most, slots_le}
+use Rattle.tree_sizes.proofs.SizeLaws.{height_most, leaf_slots_most, slots_le}
 use Rattle.store_layout.specs.Leaf.{nonzero}
 use Rattle.store_scoring.specs.Scoring.{tally}
 use Rattle.store_scoring.specs.ScoringLaws.{tally_slots}

@@ -6,7 +6,7 @@ use native.Mathlib.Omega.{arith}
 use lib.ListN.{length}
 use Rattle.base.specs.BoolLaws.{fails}
 use Rattle.tree_sizes.specs.Sizes.{height, leaf_slots, slots}
-use Rattle.tree_sizes.specs.SizeLaws.{height_most, slots_le}
+use Rattle.tree_sizes.proofs.SizeLaws.{height_most, slots_le}
 use Rattle.store_layout.specs.Leaf.{nonzero}
 use Rattle.store_scoring.specs.Scoring.{tally}
 use Rattle.store_sums.specs.SumLaws.{slots_leaf, number_leaf, leaf_room}

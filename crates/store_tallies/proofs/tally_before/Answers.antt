@@ -2,7 +2,7 @@
 use Prim.Native.Nat.{◌+◌, ◌-◌, ◌*◌, ◌^◌, ◌≤◌, ◌<◌}
 use native.Mathlib.Omega.{arith}
 use lib.ListN.{length, get_or}
-use Rattle.tree_sizes.specs.SizeLaws.{height_most}
+use Rattle.tree_sizes.proofs.SizeLaws.{height_most}
 use Rattle.store_tallies.specs.PathLaws.{path_root, path_halves, path_left, path_right, path_end}
 use Rattle.store_tallies.proofs.tally_before.Goals.{After-height-levels, After-shared_slice_known-then-k-power-1, In-loop-levels}
 use Rattle.store_tallies.proofs.tally_before.Goals as goal

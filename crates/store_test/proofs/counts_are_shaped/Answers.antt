@@ -1,7 +1,7 @@
 -- `counts_are_shaped` meets its contract.
 use Rattle.std.proofs.Common.{sym, arith}
 use Rattle.store_test.specs.Ready.{CountsTestReady}
-use Rattle.store_test.specs.StoreCheck.{SizeRead, two_counts, counts_many, counts_less, counts_more, height_bound, counts_room, root_ready, counts-tree, counts-rest}
+use Rattle.store_test.specs.StoreCheck.{SizeRead, two_counts, counts_many, counts_less, counts_more, height_bound, counts_room, root_ready, counts_tree, counts_rest}
 use Rattle.store_test.proofs.counts_are_shaped.Goals.{After-count_at-n, After-height-h}
 use Rattle.store_test.proofs.counts_are_shaped.Goals as goal
 
@@ -47,7 +47,7 @@ tree_is_balanced-requires c = root_ready (ready (goal.at.tree_is_balanced-requir
 pub returns-then-not-tree_is_balanced : goal.returns-then-not-tree_is_balanced
 returns-then-not-tree_is_balanced c =
     sym
-    (counts-tree (ready (goal.at.returns-then-not-tree_is_balanced c).After-count_at-n) (values (goal.at.returns-then-not-tree_is_balanced c).After-height-h) c.tree_is_balanced.ensures c.if-not-tree_is_balanced.true)
+    (counts_tree (ready (goal.at.returns-then-not-tree_is_balanced c).After-count_at-n) (values (goal.at.returns-then-not-tree_is_balanced c).After-height-h) c.tree_is_balanced.ensures c.if-not-tree_is_balanced.true)
 
 pub power-requires : goal.power-requires
 power-requires c =
@@ -60,5 +60,5 @@ overflow_mul-power c =
 pub returns : goal.returns
 returns c =
     sym
-    (counts-rest (ready (goal.at.returns c).After-count_at-n) (values (goal.at.returns c).After-height-h) c.tree_is_balanced.ensures
+    (counts_rest (ready (goal.at.returns c).After-count_at-n) (values (goal.at.returns c).After-height-h) c.tree_is_balanced.ensures
     c.if-not-tree_is_balanced.false c.power.ensures c.counts_are_zero.ensures)

@@ -1,7 +1,7 @@
 -- `slots_are_laid` meets its contract.
 use Rattle.std.proofs.Common.{sym, arith}
 use Rattle.store_test.specs.Ready.{SlotsTestReady}
-use Rattle.store_test.specs.StoreCheck.{LeavesRead, first_count, height_fits, leaves_ready, slots-broken, slots-rest}
+use Rattle.store_test.specs.StoreCheck.{LeavesRead, first_count, height_fits, leaves_ready, slots_broken, slots_rest}
 use Rattle.store_test.proofs.slots_are_laid.Goals.{After-count_at-m, After-power-leaves}
 use Rattle.store_test.proofs.slots_are_laid.Goals as goal
 
@@ -31,7 +31,7 @@ leaves_are_spread-requires c = leaves_ready (ready (goal.at.leaves_are_spread-re
 
 pub returns-then-not-leaves_are_spread : goal.returns-then-not-leaves_are_spread
 returns-then-not-leaves_are_spread c =
-    sym (slots-broken (ready (goal.at.returns-then-not-leaves_are_spread c).After-count_at-m) (values (goal.at.returns-then-not-leaves_are_spread c).After-power-leaves) c.leaves_are_spread.ensures c.if-not-leaves_are_spread.true)
+    sym (slots_broken (ready (goal.at.returns-then-not-leaves_are_spread c).After-count_at-m) (values (goal.at.returns-then-not-leaves_are_spread c).After-power-leaves) c.leaves_are_spread.ensures c.if-not-leaves_are_spread.true)
 
 pub overflow_mul-s : goal.overflow_mul-s
 overflow_mul-s c =
@@ -40,5 +40,5 @@ overflow_mul-s c =
 pub returns : goal.returns
 returns c =
     sym
-    (slots-rest (ready (goal.at.returns c).After-count_at-m) (values (goal.at.returns c).After-power-leaves) c.leaves_are_spread.ensures c.if-not-leaves_are_spread.false
+    (slots_rest (ready (goal.at.returns c).After-count_at-m) (values (goal.at.returns c).After-power-leaves) c.leaves_are_spread.ensures c.if-not-leaves_are_spread.false
     c.slots_are_zero.ensures)

@@ -1,7 +1,7 @@
 -- `tree_is_balanced` meets its contract. The loop's invariant: the levels above are as they should be where `all` is true (`LevelsLeft`).
 use Rattle.std.proofs.Common.{sym, arith}
 use Rattle.store_test.specs.Ready.{LevelTestReady}
-use Rattle.store_test.specs.LevelCheck.{tree_leaf, levels_all, levels_none, level-ready, levels-next}
+use Rattle.store_test.specs.LevelCheck.{tree_leaf, levels_all, levels_none, level_ready, levels_next}
 use Rattle.store_test.proofs.tree_is_balanced.Goals.{In-loop-levels}
 use Rattle.store_test.proofs.tree_is_balanced.Goals as goal
 
@@ -18,7 +18,7 @@ loop-levels-init c = levels_all c.requires c.candidates-c.ensures
 -- At each turn the level has its counts.
 ready : (c : In-loop-levels)
     → LevelTestReady c.args.counts.now c.loop-levels.c c.loop-levels.first
-ready c = level-ready c.requires c.loop-levels.invariant c.loop-levels-test.true
+ready c = level_ready c.requires c.loop-levels.invariant c.loop-levels-test.true
 
 pub level_is_balanced-level-requires : goal.level_is_balanced-level-requires
 level_is_balanced-level-requires c = ready c
@@ -28,7 +28,7 @@ overflow_mul-first c = omega (arith, (ready (goal.at.overflow_mul-first c).In-lo
 
 pub loop-levels-preserved : goal.loop-levels-preserved
 loop-levels-preserved c =
-    levels-next c.requires c.loop-levels.invariant c.loop-levels-test.true c.level_is_balanced-level.ensures
+    levels_next c.requires c.loop-levels.invariant c.loop-levels-test.true c.level_is_balanced-level.ensures
     c.half_candidates-c.ensures
 
 pub returns : goal.returns

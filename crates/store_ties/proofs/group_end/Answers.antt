@@ -7,7 +7,7 @@ use native.Mathlib.Omega.{arith}
 use lib.ListN.{length, get_or}
 use Rattle.store_ties.specs.Ties.{tie_bit}
 use Rattle.store_ties.specs.StepLaws.{end_all}
-use Rattle.store_ties.specs.WalkLaws.{scores_most, on_start, slot_behind, on_empty, on-untied, on-retired, on-scoring}
+use Rattle.store_ties.specs.WalkLaws.{scores_most, on_start, slot_behind, on_empty, on_untied, on_retired, on_scoring}
 use Rattle.store_ties.proofs.group_end.Goals.{Else-not-is_tied, In-loop-end}
 use Rattle.store_ties.proofs.group_end.Goals as goal
 
@@ -36,7 +36,7 @@ overflow_add-at-in-loop-end c = omega (arith, inside (goal.at.overflow_add-at-in
 pub returns-then-not-is_tied : goal.returns-then-not-is_tied
 returns-then-not-is_tied c =
     let k = c.is_tied in
-    on-untied c.loop-end.invariant (inside (goal.at.returns-then-not-is_tied c).In-loop-end) (omega (arith, c.if-next-ne0.true)) (sym k.ensures ∙ c.if-not-is_tied.true)
+    on_untied c.loop-end.invariant (inside (goal.at.returns-then-not-is_tied c).In-loop-end) (omega (arith, c.if-next-ne0.true)) (sym k.ensures ∙ c.if-not-is_tied.true)
 
 -- A turn at a boat with the bit.
 tied : (c : Else-not-is_tied)
@@ -49,7 +49,7 @@ loop-end-smaller-then-not-is_retired c = omega (arith, inside (goal.at.loop-end-
 pub loop-end-preserved-then-not-is_retired : goal.loop-end-preserved-then-not-is_retired
 loop-end-preserved-then-not-is_retired c =
     let k = c.is_retired in
-    on-scoring c.loop-end.invariant (inside (goal.at.loop-end-preserved-then-not-is_retired c).In-loop-end) (omega (arith, c.if-next-ne0.true)) (tied (goal.at.loop-end-preserved-then-not-is_retired c).Else-not-is_tied)
+    on_scoring c.loop-end.invariant (inside (goal.at.loop-end-preserved-then-not-is_retired c).In-loop-end) (omega (arith, c.if-next-ne0.true)) (tied (goal.at.loop-end-preserved-then-not-is_retired c).Else-not-is_tied)
     (sym k.ensures ∙ c.if-not-is_retired.true) (omega arith)
 
 pub loop-end-smaller-else-not-is_retired : goal.loop-end-smaller-else-not-is_retired
@@ -58,7 +58,7 @@ loop-end-smaller-else-not-is_retired c = omega (arith, inside (goal.at.loop-end-
 pub loop-end-preserved-else-not-is_retired : goal.loop-end-preserved-else-not-is_retired
 loop-end-preserved-else-not-is_retired c =
     let k = c.is_retired in
-    on-retired c.loop-end.invariant (inside (goal.at.loop-end-preserved-else-not-is_retired c).In-loop-end) (omega (arith, c.if-next-ne0.true)) (tied (goal.at.loop-end-preserved-else-not-is_retired c).Else-not-is_tied)
+    on_retired c.loop-end.invariant (inside (goal.at.loop-end-preserved-else-not-is_retired c).In-loop-end) (omega (arith, c.if-next-ne0.true)) (tied (goal.at.loop-end-preserved-else-not-is_retired c).Else-not-is_tied)
     (sym k.ensures ∙ c.if-not-is_retired.false)
 
 pub loop-end-smaller : goal.loop-end-smaller

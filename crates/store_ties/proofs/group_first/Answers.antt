@@ -11,7 +11,7 @@ use Rattle.base.specs.BoolLaws.{and_true, and_false}
 use Rattle.store_ties.specs.Ties.{tie_bit}
 use Rattle.store_ties.specs.Steps.{entries_before, end_tied, Back}
 use Rattle.store_ties.specs.StepLaws.{back_first, back_zero}
-use Rattle.store_ties.specs.WalkLaws.{scores_most, back_start, slot_before, back_empty, back-retired, back-scoring}
+use Rattle.store_ties.specs.WalkLaws.{scores_most, back_start, slot_before, back_empty, back_retired, back_scoring}
 use Rattle.store_ties.proofs.group_first.Goals.{In-loop-first, Joined-not-is_retired, then-not-is_retired, else-not-is_retired}
 use Rattle.store_ties.proofs.group_first.Goals as goal
 
@@ -53,9 +53,9 @@ passed c =
     let k = c.is_retired in
     elim c.if-not-is_retired.branch [
       | then-not-is_retired w ↦
-          rw w.first-is (back-scoring (turn (goal.at.Joined-not-is_retired c).In-loop-first) (omega (arith, c.if-last-ne0.true)) (sym k.ensures ∙ w.if-not-is_retired.true))
+          rw w.first-is (back_scoring (turn (goal.at.Joined-not-is_retired c).In-loop-first) (omega (arith, c.if-last-ne0.true)) (sym k.ensures ∙ w.if-not-is_retired.true))
       | else-not-is_retired w ↦
-          rw w.first-is (back-retired (turn (goal.at.Joined-not-is_retired c).In-loop-first) (omega (arith, c.if-last-ne0.true)) (sym k.ensures ∙ w.if-not-is_retired.false))
+          rw w.first-is (back_retired (turn (goal.at.Joined-not-is_retired c).In-loop-first) (omega (arith, c.if-last-ne0.true)) (sym k.ensures ∙ w.if-not-is_retired.false))
     ]
 
 pub returns-then-not-is_tied : goal.returns-then-not-is_tied

@@ -1,5 +1,5 @@
 -- `read_four` meets its contract.
-use Rattle.store_order.specs.PutLaws.{puts_to, four_put}
+use Rattle.store_order.proofs.PutLaws.{puts_to, four_put}
 use Rattle.store_tree_read.proofs.read_four.Goals as goal
 
 pub returns : goal.returns

@@ -1,5 +1,5 @@
 -- `read_one` meets its contract.
-use Rattle.store_order.specs.PutLaws.{one_to}
+use Rattle.store_order.proofs.PutLaws.{one_to}
 use Rattle.store_tree_read.proofs.read_one.Goals as goal
 
 pub returns : goal.returns

@@ -1,7 +1,7 @@
 -- `read_small` meets its contract.
 use mathlib.Core.Path.{◌≡◌}
 use native.Mathlib.Omega.{arith}
-use Rattle.store_order.specs.TreeReadyLaws.{ready_is}
+use Rattle.store_order.proofs.TreeReadyLaws.{ready_is}
 use Rattle.store_tree_read.proofs.read_small.Goals.{Else-levels-eq2}
 use Rattle.store_tree_read.proofs.read_small.Goals as goal
 

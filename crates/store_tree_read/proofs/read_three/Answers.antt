@@ -1,5 +1,5 @@
 -- `read_three` meets its contract.
-use Rattle.store_order.specs.PutLaws.{puts_to, three_put}
+use Rattle.store_order.proofs.PutLaws.{puts_to, three_put}
 use Rattle.store_tree_read.proofs.read_three.Goals as goal
 
 pub returns : goal.returns

@@ -1,5 +1,5 @@
 -- `read_two` meets its contract.
-use Rattle.store_order.specs.PutLaws.{puts_to, two_put}
+use Rattle.store_order.proofs.PutLaws.{puts_to, two_put}
 use Rattle.store_tree_read.proofs.read_two.Goals as goal
 
 pub returns : goal.returns

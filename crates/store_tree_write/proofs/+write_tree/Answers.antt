@@ -7,11 +7,11 @@ use native.Mathlib.Omega.{arith}
 use lib.ListN.{length}
 use lib.Pow.{pow_pos}
 use Rattle.store_order.specs.TreeOrder.{tree_order}
-use Rattle.store_order.specs.TreeOrderLaws.{halves}
+use Rattle.store_order.proofs.TreeOrderLaws.{halves}
 use Rattle.store_order.specs.Copied.{put_from}
-use Rattle.store_order.specs.PutLaws.{puts_from, none_put, next_put, all_put}
+use Rattle.store_order.proofs.PutLaws.{puts_from, none_put, next_put, all_put}
 use Rattle.store_order.specs.TreeReady.{TreeReady}
-use Rattle.store_order.specs.TreeReadyLaws.{range_inside, next_place, top_ready, lower_ready}
+use Rattle.store_order.proofs.TreeReadyLaws.{range_inside, next_place, top_ready, lower_ready}
 use Rattle.store_tree_write.proofs.write_small.Reads as small
 use Rattle.store_tree_write.proofs.+write_tree.Goals.{Else-levels-le4, In-loop-j, Joined-lower-le4, then-lower-le4, else-lower-le4}
 use Rattle.store_tree_write.proofs.+write_tree.Goals as goal

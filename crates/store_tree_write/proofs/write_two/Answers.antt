@@ -1,5 +1,5 @@
 -- `write_two` meets its contract.
-use Rattle.store_order.specs.PutLaws.{puts_from, two_put}
+use Rattle.store_order.proofs.PutLaws.{puts_from, two_put}
 use Rattle.store_tree_write.proofs.write_two.Goals as goal
 
 pub returns : goal.returns

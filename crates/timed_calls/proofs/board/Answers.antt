@@ -1,7 +1,7 @@
 -- `board` meets its contract.
 use Rattle.call_outcomes.specs.PlainCalls.{board_of}
 use Rattle.timed_answers.specs.QuestionLaws.{readable, asked_outcome}
-use Rattle.call_outcomes.specs.ClubsLaws.{clubs_ready}
+use Rattle.call_outcomes.proofs.ClubsLaws.{clubs_ready}
 use Rattle.timed_calls.proofs.board.Goals as goal
 
 pub board-requires : goal.board-requires

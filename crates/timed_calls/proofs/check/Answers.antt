@@ -2,7 +2,7 @@
 use mathlib.Core.Path.{refl}
 use Rattle.call_outcomes.specs.PlainCalls.{count_of, written_for}
 use Rattle.timed_answers.specs.QuestionLaws.{answered_outcome}
-use Rattle.call_outcomes.specs.ClubsLaws.{clubs_ready}
+use Rattle.call_outcomes.proofs.ClubsLaws.{clubs_ready}
 use Rattle.timed_calls.proofs.check.Goals as goal
 
 pub returns : goal.returns

@@ -7,7 +7,7 @@ use Rattle.base.specs.ListLaws.{every_replicate}
 use Rattle.call_outcomes.specs.DecisionLaws.{clear_refused}
 use Rattle.call_outcomes.specs.Clubs.{clubs}
 use Rattle.call_timed.specs.Timed.{timed_view, timed, TimedLengths, timed_store_of}
-use Rattle.call_timed.specs.TimedLaws.{right_timed}
+use Rattle.call_timed.proofs.TimedLaws.{right_timed}
 use Rattle.timed_open.specs.LengthLaws.{lengths_tested}
 use Rattle.timed_answers.specs.ClearLaws.{clear_done}
 use Rattle.timed_calls.proofs.clear.Goals.{After-right_lengths, Else-not-right_lengths}

@@ -3,7 +3,7 @@ use mathlib.Core.Path.{◌≡◌, sym, ◌∙◌}
 use Rattle.tree_rules.specs.declared.Change.TheVariants.{Delete}
 use Rattle.call_outcomes.specs.Causes.{accept, decision}
 use Rattle.call_outcomes.specs.Clubs.{clubs}
-use Rattle.call_outcomes.specs.ClubsLaws.{clubs_ready}
+use Rattle.call_outcomes.proofs.ClubsLaws.{clubs_ready}
 use Rattle.call_open.specs.declared.Opened.TheVariants.{Sheet}
 use Rattle.call_open.specs.Opening.{OpenedStore}
 use Rattle.call_open.specs.AdmittedLaws.{opened_store, found_sheet, found_free, call_refused}

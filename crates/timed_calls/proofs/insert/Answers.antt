@@ -6,12 +6,12 @@ use Rattle.store_keys.specs.Key.{key}
 use Rattle.call_outcomes.specs.Causes.{accept, looked_at, decision}
 use Rattle.call_outcomes.specs.PlainCalls.{plain_change}
 use Rattle.call_outcomes.specs.Clubs.{clubs}
-use Rattle.call_outcomes.specs.ClubsLaws.{clubs_ready}
+use Rattle.call_outcomes.proofs.ClubsLaws.{clubs_ready}
 use Rattle.call_open.specs.Opening.{OpenedStore}
 use Rattle.call_open.specs.AdmittedLaws.{opened_store}
 use Rattle.call_timed.specs.Timed.{timed_view, insert_entry, plainly, timed, insert, timed_store_of, timed_numbers}
 use Rattle.timed_answers.specs.SheetLaws.{search_ready}
-use Rattle.timed_answers.specs.EntryLaws.{store_refused, change_ready, change_done, insert_zero, insert_present, insert-full, insert-decided, insert-plainly}
+use Rattle.timed_answers.specs.EntryLaws.{store_refused, change_ready, change_done, insert_zero, insert_present, insert_full, insert_decided, insert_plainly}
 use Rattle.timed_calls.proofs.insert.Goals.{Else-key-eq0, Else-n-ge1024, In-Sheet}
 use Rattle.timed_calls.proofs.insert.Goals as goal
 
@@ -31,13 +31,13 @@ decided : (c : Else-n-ge1024)
     → let a = c.args in
     decision (timed clubs) (insert a.entry) (timed_store_of a.slots.now a.counts.now a.tallies.now a.balance.now) ≡ accept (sheet (goal.at.Else-n-ge1024 c).In-Sheet).contents
 decided c =
-    insert-decided clubs_ready (sheet (goal.at.Else-n-ge1024 c).In-Sheet) _ (some_key (goal.at.Else-n-ge1024 c).Else-key-eq0) _ c.search-sought.ensures c.if-sought.false c.if-n-ge1024.false
+    insert_decided clubs_ready (sheet (goal.at.Else-n-ge1024 c).In-Sheet) _ (some_key (goal.at.Else-n-ge1024 c).Else-key-eq0) _ c.search-sought.ensures c.if-sought.false c.if-n-ge1024.false
 
 plainly_is : (c : Else-n-ge1024)
     → let e = c.args.entry in
     plainly (insert_entry e) (sheet (goal.at.Else-n-ge1024 c).In-Sheet).contents.list ≡ plain_change (Insert c.search-sought.result.rank) e
 plainly_is c =
-    insert-plainly clubs_ready (sheet (goal.at.Else-n-ge1024 c).In-Sheet) _ (some_key (goal.at.Else-n-ge1024 c).Else-key-eq0) _ c.search-sought.ensures c.if-sought.false
+    insert_plainly clubs_ready (sheet (goal.at.Else-n-ge1024 c).In-Sheet) _ (some_key (goal.at.Else-n-ge1024 c).Else-key-eq0) _ c.search-sought.ensures c.if-sought.false
 
 pub returns-then-key-eq0 : goal.returns-then-key-eq0
 returns-then-key-eq0 c = insert_zero clubs_ready (sheet (goal.at.returns-then-key-eq0 c).In-Sheet) _ _ (sym c.key.ensures ∙ c.if-key-eq0.true)
@@ -51,7 +51,7 @@ returns-then-sought c =
 
 pub returns-then-n-ge1024 : goal.returns-then-n-ge1024
 returns-then-n-ge1024 c =
-    insert-full clubs_ready (sheet (goal.at.returns-then-n-ge1024 c).In-Sheet) _ (some_key (goal.at.returns-then-n-ge1024 c).Else-key-eq0) _ c.search-sought.ensures c.if-sought.false _ c.if-n-ge1024.true
+    insert_full clubs_ready (sheet (goal.at.returns-then-n-ge1024 c).In-Sheet) _ (some_key (goal.at.returns-then-n-ge1024 c).Else-key-eq0) _ c.search-sought.ensures c.if-sought.false _ c.if-n-ge1024.true
 
 pub change-requires : goal.change-requires
 change-requires c =

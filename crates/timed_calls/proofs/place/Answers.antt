@@ -1,7 +1,7 @@
 -- `place` meets its contract.
 use mathlib.Core.Path.{refl}
 use Rattle.call_outcomes.specs.PlainCalls.{place_of}
-use Rattle.call_outcomes.specs.ClubsLaws.{clubs_ready}
+use Rattle.call_outcomes.proofs.ClubsLaws.{clubs_ready}
 use Rattle.timed_answers.specs.QuestionLaws.{tallied, asked_outcome}
 use Rattle.timed_calls.proofs.place.Goals as goal
 

@@ -1,7 +1,7 @@
 -- `read` meets its contract.
 use Rattle.call_outcomes.specs.PlainCalls.{read_ranks}
 use Rattle.timed_answers.specs.QuestionLaws.{readable, asked_outcome}
-use Rattle.call_outcomes.specs.ClubsLaws.{clubs_ready}
+use Rattle.call_outcomes.proofs.ClubsLaws.{clubs_ready}
 use Rattle.timed_calls.proofs.read.Goals as goal
 
 pub read-requires : goal.read-requires

@@ -5,13 +5,13 @@ use native.Mathlib.Omega.{arith}
 use lib.ListN.{get_or}
 use Rattle.call_outcomes.specs.Untallied.{store_of}
 use Rattle.call_outcomes.specs.Clubs.{clubs}
-use Rattle.call_outcomes.specs.ClubsLaws.{clubs_ready}
+use Rattle.call_outcomes.proofs.ClubsLaws.{clubs_ready}
 use Rattle.call_open.specs.Opening.{OpenedSheet}
 use Rattle.call_open.specs.OpenedLaws.{size_small, slots_room, levels_room}
 use Rattle.call_timed.specs.Timed.{timed_view, TimedLengths, timed_store_of}
-use Rattle.call_timed.specs.TimedLaws.{right_timed}
+use Rattle.call_timed.proofs.TimedLaws.{right_timed}
 use Rattle.timed_open.specs.LengthLaws.{lengths_tested}
-use Rattle.timed_answers.specs.MendLaws.{mend_lengths, mend_none, mend-fallen, mend-made}
+use Rattle.timed_answers.specs.MendLaws.{mend_lengths, mend_none, mend_fallen, mend_made}
 use Rattle.timed_mend.proofs.mend.Goals.{After-right_lengths, Else-not-right_lengths, In-Sheet}
 use Rattle.timed_mend.proofs.mend.Goals as goal
 
@@ -54,7 +54,7 @@ entries_rise-requires c = rw c.slots.ensures (slots_room clubs_ready (found (goa
 
 pub returns-then-not-entries_rise : goal.returns-then-not-entries_rise
 returns-then-not-entries_rise c =
-    mend-fallen clubs_ready _ _ _ _ (right (goal.at.returns-then-not-entries_rise c).Else-not-right_lengths) (found (goal.at.returns-then-not-entries_rise c).In-Sheet).0 (rw (← c.slots.ensures) (sym c.entries_rise.ensures ∙ c.if-not-entries_rise.true))
+    mend_fallen clubs_ready _ _ _ _ (right (goal.at.returns-then-not-entries_rise c).Else-not-right_lengths) (found (goal.at.returns-then-not-entries_rise c).In-Sheet).0 (rw (← c.slots.ensures) (sym c.entries_rise.ensures ∙ c.if-not-entries_rise.true))
 
 pub put_in-requires : goal.put_in-requires
 put_in-requires c =
@@ -67,7 +67,7 @@ write_balance-requires c =
 
 pub returns-else-not-entries_rise : goal.returns-else-not-entries_rise
 returns-else-not-entries_rise c =
-    mend-made clubs_ready _ _ _ _ (right (goal.at.returns-else-not-entries_rise c).Else-not-right_lengths) (found (goal.at.returns-else-not-entries_rise c).In-Sheet).0 (found (goal.at.returns-else-not-entries_rise c).In-Sheet).1 (rw (← c.slots.ensures) (sym c.entries_rise.ensures ∙ c.if-not-entries_rise.false))
+    mend_made clubs_ready _ _ _ _ (right (goal.at.returns-else-not-entries_rise c).Else-not-right_lengths) (found (goal.at.returns-else-not-entries_rise c).In-Sheet).0 (found (goal.at.returns-else-not-entries_rise c).In-Sheet).1 (rw (← c.slots.ensures) (sym c.entries_rise.ensures ∙ c.if-not-entries_rise.false))
     c.put_in.ensures.0 c.put_in.ensures.1 c.write_balance.ensures
 
 pub returns-in-Refused : goal.returns-in-Refused

@@ -4,10 +4,10 @@ use Prim.Native.Nat.{ℕ, ◌+◌, ◌-◌, ◌^◌, ◌≤◌, ◌<◌}
 use native.Mathlib.Omega.{arith}
 use native.Mathlib.Numerals.{add-one}
 use Rattle.tree_sizes.specs.Sizes.{window_start}
-use Rattle.tree_sizes.specs.SizeLaws.{window_fits}
+use Rattle.tree_sizes.proofs.SizeLaws.{window_fits}
 use Rattle.tree_rules.specs.Compare.{count_after, compare}
 use Rattle.tree_rules.specs.Swap.{swap_of}
-use Rattle.tree_rules.specs.CompareLaws.{compare_closed}
+use Rattle.tree_rules.proofs.CompareLaws.{compare_closed}
 use Rattle.tree_rules.proofs.compare.Goals.{Start}
 use Rattle.tree_rules.proofs.compare.Goals as goal
 

@@ -4,7 +4,7 @@ use Prim.Native.Nat.{ℕ, ◌+◌, ◌-◌, ◌*◌}
 use Rattle.base.specs.Cases.{if_lt}
 use Rattle.base.specs.CaseLaws.{if_eq_yes, if_eq_no, if_lt_yes, if_lt_no, if_le_yes, if_le_no}
 use Rattle.draw_shares.specs.Tape.{ran, run_at}
-use Rattle.draw_shares.specs.TapeLaws.{run_done, run_face, run_ended}
+use Rattle.draw_shares.proofs.TapeLaws.{run_done, run_face, run_ended}
 use Rattle.tree_rules.specs.Rules.{anew, delete_size, shrink}
 use Rattle.tree_rules.specs.Step.{stepped_as}
 use Rattle.tree_rules.proofs.delete_size.Goals.{Else-m-faces, In-Face}

@@ -2,7 +2,7 @@
 use mathlib.Core.Path.{sym, ◌∙◌}
 use native.Mathlib.Omega.{arith}
 use Rattle.draw.specs.DrawLaws.{draw_sound}
-use Rattle.draw_shares.specs.TapeLaws.{run_done, run_face, run_ended}
+use Rattle.draw_shares.proofs.TapeLaws.{run_done, run_face, run_ended}
 use Rattle.tree_rules.specs.Rules.{grow}
 use Rattle.tree_rules.specs.Step.{stepped_as}
 use Rattle.tree_rules.proofs.grow.Goals as goal

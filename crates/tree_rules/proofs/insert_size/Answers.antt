@@ -5,7 +5,7 @@ use Rattle.base.specs.Cases.{if_eq}
 use Rattle.base.specs.CaseLaws.{if_eq_yes, if_eq_no}
 use Rattle.draw_shares.specs.Program.{done, draw}
 use Rattle.draw_shares.specs.Tape.{run_at}
-use Rattle.draw_shares.specs.TapeLaws.{run_done, run_face, run_ended}
+use Rattle.draw_shares.proofs.TapeLaws.{run_done, run_face, run_ended}
 use Rattle.tree_rules.specs.Rules.{kept, grow, insert_size}
 use Rattle.tree_rules.specs.Step.{stepped_as}
 use Rattle.tree_rules.proofs.insert_size.Goals.{Else-m-n, In-Face}

@@ -2,7 +2,7 @@
 use mathlib.Core.Path.{ap₂}
 use Prim.Native.Nat.{◌-◌}
 use Rattle.tree_sizes.specs.Sizes.{window_start}
-use Rattle.tree_sizes.specs.SizeLaws.{ceil_div_half}
+use Rattle.tree_sizes.proofs.SizeLaws.{ceil_div_half}
 use Rattle.tree_sizes.proofs.window_start.Goals as goal
 
 pub returns : goal.returns

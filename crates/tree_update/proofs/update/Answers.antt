@@ -1,6 +1,6 @@
 -- `tree_update::update` meets its contract.
 use native.Mathlib.Omega.{arith}
-use Rattle.tree_update.specs.UpdateLaws.{kept-can, kept_run, anew-can, anew-updated, ended_updated}
+use Rattle.tree_update.specs.UpdateLaws.{kept_can, kept_run, anew_can, anew_updated, ended_updated}
 use Rattle.tree_update.proofs.update.Goals as goal
 
 pub size_step-requires : goal.size_step-requires
@@ -9,7 +9,7 @@ size_step-requires c =
 
 pub walk-requires : goal.walk-requires
 walk-requires c =
-    kept-can c.requires _ _ c.size_step.ensures _ c.in-Kept.is
+    kept_can c.requires _ _ c.size_step.ensures _ c.in-Kept.is
 
 pub count_after-after-requires : goal.count_after-after-requires
 count_after-after-requires c =
@@ -17,7 +17,7 @@ count_after-after-requires c =
 
 pub fresh-rebuilt-requires : goal.fresh-rebuilt-requires
 fresh-rebuilt-requires c =
-    anew-can c.requires _ _ c.size_step.ensures _ _ c.in-Anew.is _ c.count_after-after.ensures
+    anew_can c.requires _ _ c.size_step.ensures _ _ c.in-Anew.is _ c.count_after-after.ensures
 
 pub returns-in-Kept : goal.returns-in-Kept
 returns-in-Kept c =
@@ -25,7 +25,7 @@ returns-in-Kept c =
 
 pub returns-in-Anew : goal.returns-in-Anew
 returns-in-Anew c =
-    anew-updated c.requires _ _ c.size_step.ensures _ _ c.in-Anew.is _ c.count_after-after.ensures
+    anew_updated c.requires _ _ c.size_step.ensures _ _ c.in-Anew.is _ c.count_after-after.ensures
     _ _ _ _ c.rank_of.ensures c.fresh-rebuilt.ensures c.finish.ensures
 
 pub returns-in-Ended : goal.returns-in-Ended

@@ -12,7 +12,7 @@ use Rattle.tree_visit.specs.declared.Visited.{Visited}
 use Rattle.tree_visit.specs.declared.Visited.TheVariants.{Pass}
 use Rattle.tree_sizes.specs.Sizes.{candidates}
 use Rattle.tree_walk.specs.Walk.{Walking}
-use Rattle.tree_walk.specs.WalkLaws.{walking_start, above_walking, comparable, entries_most, node_bounds, balance_below, Seen, stop_leaf, stop-visit, pass, half_lower, half_counted}
+use Rattle.tree_walk.specs.WalkLaws.{walking_start, above_walking, comparable, entries_most, node_bounds, balance_below, Seen, stop_leaf, stop_visit, pass, half_lower, half_counted}
 use Rattle.tree_walk.proofs.descend.Goals.{After-visit-visited, Else-range-eq0}
 use Rattle.tree_walk.proofs.descend.Goals as goal
 
@@ -97,4 +97,4 @@ pub returns-in_default : goal.returns-in_default
 returns-in_default c =
     let h = c.loop-range in
     rw c.requires.size at
-    (stop-visit h.range h.invariant.0 c.if-range-eq0.false (seen (goal.at.returns-in_default c).After-visit-visited) c.in_default.not-Pass)
+    (stop_visit h.range h.invariant.0 c.if-range-eq0.false (seen (goal.at.returns-in_default c).After-visit-visited) c.in_default.not-Pass)

@@ -3,7 +3,7 @@ use mathlib.Core.Path.{◌≡◌, ap}
 use Prim.Native.Nat.{ℕ, ◌*◌, ◌^◌, ◌≤◌, ◌<◌}
 use native.Mathlib.Omega.{arith}
 use Rattle.tree_sizes.specs.Sizes.{candidates, ceil_div, digits}
-use Rattle.tree_sizes.specs.SizeLaws.{digits_most, step_most, step_pos}
+use Rattle.tree_sizes.proofs.SizeLaws.{digits_most, step_most, step_pos}
 use Rattle.tree_sizes.proofs.Size.candidates.Goals as goal
 
 -- The value of the local `step`.

@@ -3,7 +3,7 @@ use lib.Count.{leading_le}
 use mir.Facts.{Fits-below}
 use native.Mathlib.Omega.{arith}
 use borrow.Author.Rules.{rules}
-use Rattle.tree_sizes.specs.SizeLaws.{digits_leading}
+use Rattle.tree_sizes.proofs.SizeLaws.{digits_leading}
 use Rattle.tree_sizes.proofs.Size.digits.Goals as goal
 
 pub overflow_cast-result : goal.overflow_cast-result

@@ -2,7 +2,7 @@
 use native.Mathlib.Nat.{pow-succ'}
 use native.Mathlib.Numerals.{add-one}
 use native.Mathlib.Omega.{arith}
-use Rattle.tree_sizes.specs.SizeLaws.{digits_le, digits_pos, height_small, height_unique}
+use Rattle.tree_sizes.proofs.SizeLaws.{digits_le, digits_pos, height_small, height_unique}
 use Rattle.tree_sizes.proofs.Size.height.Goals as goal
 
 pub returns-then-m-le64 : goal.returns-then-m-le64

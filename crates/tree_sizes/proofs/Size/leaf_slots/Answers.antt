@@ -1,6 +1,6 @@
 -- `Size::leaf_slots` meets its contract.
 use native.Mathlib.Omega.{arith}
-use Rattle.tree_sizes.specs.SizeLaws.{digits_most, leaf_slots_large, leaf_slots_small}
+use Rattle.tree_sizes.proofs.SizeLaws.{digits_most, leaf_slots_large, leaf_slots_small}
 use Rattle.tree_sizes.proofs.Size.leaf_slots.Goals as goal
 
 pub returns-then-self-le64 : goal.returns-then-self-le64

@@ -3,7 +3,7 @@ use Prim.Native.Nat.{◌*◌}
 use mathlib.Core.Path.{◌≡◌}
 use native.Mathlib.Omega.{arith}
 use Rattle.tree_sizes.specs.Sizes.{slots}
-use Rattle.tree_sizes.specs.SizeLaws.{height_most, slots_le}
+use Rattle.tree_sizes.proofs.SizeLaws.{height_most, slots_le}
 use Rattle.tree_sizes.proofs.Size.slots.Goals as goal
 
 product : (c : goal.After-power)

@@ -1,0 +1,3 @@
+-- The laws of this crate whose definitions must-fail edits change.
+pub mod ConversionLaws
+pub mod OrderLaws

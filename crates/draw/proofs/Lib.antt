@@ -1,0 +1,2 @@
+-- The laws of this crate whose definitions must-fail edits change.
+pub mod Fair
