@@ -18,98 +18,44 @@ use Rattle.call_outcomes.specs.Outcome.{list_after}
 use Rattle.call_outcomes.specs.PlainCalls.{change_cause, edit_of}
 use Rattle.call_timed.specs.Timed.{plainly, timed_change_cause, timed_calls, TimedCall, insert, delete}
 use Rattle.call_history.specs.History.{history, final_list, list_at_end, SameTable}
+use Rattle.call_corrections.proofs.TimedInsertOrders as orders
 use Rattle.call_corrections.specs.Accepted.{AllAccepted}
 use Rattle.call_corrections.specs.Exchange.{two_lead, two_accepted, parts_exchanged}
-
--- The list with the entry in at the rank of its key.
-abbrev with : ℕ → List ℕ → List ℕ
-with e list = change_list (Insert (rank_of (key e) list)) e list
-
-length_with : (e : ℕ) (list : List ℕ) → length (with e list) ≡ suc (length list)
-length_with e list = length_inserted (rank_of (key e) list) e list (rank_most (key e) list)
-
--- The other keys: the rank of a higher one is one higher, that of a lower one is the same, and one that was absent is absent.
-module _ (e k : ℕ) (list : List ℕ) where
-  rank_higher : key e < k → rank_of k (with e list) ≡ suc (rank_of k list)
-  unfolding change_list
-  rank_higher = rank_inserted_lower k e (rank_of (key e) list) list
-
-  rank_lower : k < key e → rank_of k (with e list) ≡ rank_of k list
-  unfolding change_list
-  rank_lower less = rank_inserted_other k e (rank_of (key e) list) list (omega arith)
-
-  absent_with : key e ≢ k → present k list ≡ false → present k (with e list) ≡ false
-  unfolding change_list
-  absent_with = present_inserted_other k e (rank_of (key e) list) list
-
--- ---- two entries
-
--- The one with the higher key first, or the one with the lower key first.
-higher_or_lower : (a b : ℕ) (list : List ℕ) → key a < key b → with a (with b list) ≡ with b (with a list)
-higher_or_lower a b list less =
-    rw (rank_lower b (key a) list less, rank_higher a (key b) list less)
-    (inserts_either_order (rank_of (key a) list) (rank_of (key b) list) b a list (rank_rises (key a) (key b) list (omega arith)) (rank_most (key b) list))
-
-with_either_order : (a b : ℕ) (list : List ℕ) → key a ≢ key b → with b (with a list) ≡ with a (with b list)
-with_either_order a b list other =
-    ⊎_elim (λ less. sym (higher_or_lower a b list less)) (λ least. higher_or_lower b a list (omega (arith, other, least))) (lt_or_ge (key a) (key b))
 
 module _ (view : View) (entries : ℕ) where
   -- Any store with the calls of timed sheets.
   abbrev kind : Kind
   kind = record { view = view; calls = timed_calls entries }
 
-  insert_free : (e : ℕ) (list : List ℕ) → key e ≢ 0 → present (key e) list ≡ false → length list < entries → argument_cause kind (insert e) list ≡ none
-  unfolding argument_cause timed_change_cause first_of
-  insert_free e list some_key absent room = rw (ne_eqb (key e) 0 some_key, absent, lt-leb entries (length list) room)
-
   -- ---- two inserts in either order
 
   module _ (a b : ℕ) (list : List ℕ) (room : length list + 2 ≤ entries) (some-a : key a ≢ 0) (some-b : key b ≢ 0) (other : key a ≢ key b)
       (absent-a : present (key a) list ≡ false) (absent-b : present (key b) list ≡ false) where
-    a_free : argument_cause kind (insert a) list ≡ none
-    a_free = insert_free a list some-a absent-a (omega arith)
-
-    then_b : argument_cause kind (insert b) (list_after kind (insert a) list) ≡ none
-    unfolding list_after applied plainly edit_of
-    then_b = insert_free b (with a list) some-b (absent_with a (key b) list other absent-b) (omega (arith, length_with a list))
-
-    b_free : argument_cause kind (insert b) list ≡ none
-    b_free = insert_free b list some-b absent-b (omega arith)
-
-    then_a : argument_cause kind (insert a) (list_after kind (insert b) list) ≡ none
-    unfolding list_after applied plainly edit_of
-    then_a = insert_free a (with b list) some-a (absent_with b (key a) list (λ same. other (sym same)) absent-a) (omega (arith, length_with b list))
-
     -- Both orders lead to the same list.
     pub either_order : final_list kind (insert a ∷ insert b ∷ []) list ≡ final_list kind (insert b ∷ insert a ∷ []) list
-    unfolding list_after applied plainly edit_of
-    either_order =
-        two_lead kind (insert a) (insert b) list a_free then_b
-        ∙ with_either_order a b list other
-        ∙ sym (two_lead kind (insert b) (insert a) list b_free then_a)
+    either_order = orders.either_order view entries a b list room some-a some-b other absent-a absent-b
 
     -- All four calls are accepted.
     pub both_accepted : Lawful kind → AllAccepted kind (insert a ∷ insert b ∷ []) list × AllAccepted kind (insert b ∷ insert a ∷ []) list
-    both_accepted lawful = (two_accepted kind lawful (insert a) (insert b) list a_free then_b, two_accepted kind lawful (insert b) (insert a) list b_free then_a)
+    both_accepted = orders.both_accepted view entries a b list room some-a some-b other absent-a absent-b
 
   -- ---- an insert and then a delete of the rank of its key
 
   module _ (e : ℕ) (list : List ℕ) (room : length list < entries) (some_key : key e ≢ 0) (absent : present (key e) list ≡ false) where
     inserted_free : argument_cause kind (delete (rank_of (key e) list)) (list_after kind (insert e) list) ≡ none
     unfolding argument_cause timed_change_cause change_cause first_of list_after applied plainly edit_of
-    inserted_free = rw (lt-leb (length (with e list)) (rank_of (key e) list) (omega (arith, length_with e list, rank_most (key e) list)))
+    inserted_free = rw (lt-leb (length (orders.with e list)) (rank_of (key e) list) (omega (arith, orders.length_with e list, rank_most (key e) list)))
 
     -- They lead back to the list.
     pub taken_back : final_list kind (insert e ∷ delete (rank_of (key e) list) ∷ []) list ≡ list
     unfolding list_after applied plainly edit_of
     taken_back =
-        two_lead kind (insert e) (delete (rank_of (key e) list)) list (insert_free e list some_key absent room) inserted_free
+        two_lead kind (insert e) (delete (rank_of (key e) list)) list (orders.insert_free view entries e list some_key absent room) inserted_free
         ∙ insert_delete (rank_of (key e) list) e 0 list (rank_most (key e) list)
 
     -- Both calls are accepted.
     pub back_accepted : Lawful kind → AllAccepted kind (insert e ∷ delete (rank_of (key e) list) ∷ []) list
-    back_accepted lawful = two_accepted kind lawful (insert e) (delete (rank_of (key e) list)) list (insert_free e list some_key absent room) inserted_free
+    back_accepted lawful = two_accepted kind lawful (insert e) (delete (rank_of (key e) list)) list (orders.insert_free view entries e list some_key absent room) inserted_free
 
   -- ---- in a history, between the same calls
 
@@ -125,7 +71,7 @@ module _ (view : View) (entries : ℕ) where
         → SameTable view (history kind (before ++ (insert a ∷ insert b ∷ after)) store) (history kind (before ++ (insert b ∷ insert a ∷ after)) store')
     either_shares a b room some-a some-b other absent-a absent-b =
         parts_exchanged kind lawful before (insert a ∷ insert b ∷ []) (insert b ∷ insert a ∷ []) after store store' right right'
-        (either_order a b list room some-a some-b other absent-a absent-b)
+        (orders.either_order view entries a b list room some-a some-b other absent-a absent-b)
 
     -- With the insert and the delete, and without them, every store has the same share.
     pub back_shares : (e : ℕ) → length list < entries → key e ≢ 0 → present (key e) list ≡ false

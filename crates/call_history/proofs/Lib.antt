@@ -5,3 +5,6 @@ pub mod PlainSupply
 pub mod Shares
 pub mod Supply
 pub mod TapeRunsLaws
+pub mod ClubSheets
+pub mod NextSheet
+pub mod SingleCalls

@@ -26,7 +26,7 @@ use Rattle.call_outcomes.specs.Outcome.{edited, effect, answer_of, refused, fini
 use Rattle.call_history.specs.History.{run_calls, history, next_list, refusal_of, SentTo, clearing, store_after, last_store, NoneEnds, faces_sent, calls_of}
 use Rattle.call_history.specs.CallKeeps.{empty_sheets, sheets_end, program_on, sheet_program, sheet_refusal}
 use Rattle.call_history.proofs.Independence.{clear_program}
-use Rattle.call_history.specs.NextSheet.{next_sheet}
+use Rattle.call_history.proofs.NextSheet.{next_sheet}
 
 -- What is asked of a kind: its lists are short enough that 32-bit words decide every draw, and 7 is neither a cause of arguments nor a reply.
 pub record Suppliable (kind : Kind) : Type 0 where

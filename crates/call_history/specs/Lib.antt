@@ -5,7 +5,4 @@ pub mod TapeRuns
 pub mod Words
 pub mod HistoryRunsLaws
 pub mod CallKeeps
-pub mod NextSheet
 pub mod Refusals
-pub mod SingleCalls
-pub mod ClubSheets

@@ -1,6 +1,5 @@
 -- Questions answered by what a store was found to hold: definitions first, then their laws.
 pub mod Asked
-pub mod AskedLaws
 pub mod StartLaws
 pub mod ReadLaws
 pub mod BoardLaws

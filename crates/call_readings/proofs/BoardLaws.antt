@@ -23,7 +23,7 @@ use Rattle.call_outcomes.specs.PlainCalls.{Question, read_ranks, board_of, quest
 use Rattle.call_outcomes.specs.PlainCallLaws.{board_within, board_written}
 use Rattle.call_outcomes.specs.DecisionLaws.{outcome_refused, question_outcome}
 use Rattle.call_history.specs.Refusals.{refused_by}
-use Rattle.call_history.specs.SingleCalls.{question_by, not_refused}
+use Rattle.call_history.proofs.SingleCalls.{question_by, not_refused}
 use Rattle.call_readings.proofs.ReadingLaws.{read_made}
 
 module _ (kind : Kind) (lawful : Lawful kind) (asks : Question → kind.calls.Question) (plainly : (q : Question) → AsPlain kind (asks q) q) where

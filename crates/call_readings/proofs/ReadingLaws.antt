@@ -14,7 +14,8 @@ use Rattle.call_outcomes.specs.Causes.{first_of, argument_cause}
 use Rattle.call_outcomes.specs.Outcome.{Outcome, outcome}
 use Rattle.call_outcomes.specs.PlainCalls.{Question, read_ranks, question_cause, reply_to, written_for, AsPlain}
 use Rattle.call_history.specs.Refusals.{refused_by}
-use Rattle.call_history.specs.SingleCalls.{question_by}
+use Rattle.call_history.proofs.SingleCalls.{question_by}
+use Rattle.call_readings.proofs.WrittenLaws as written
 use Rattle.call_readings.specs.Reading.{rank_count}
 
 -- ---- what a read writes
@@ -28,11 +29,7 @@ written_length list first last room in_order inside = length_part list first (ra
 -- What a read of first to mid writes, and then what a read of mid + 1 to last writes, is what a read of first to last writes.
 pub written_joined : (list : List ℕ) (first mid last room room₁ room₂ : ℕ) → first ≤ mid → mid < last
     → written_for (read_ranks first last room) list ≡ written_for (read_ranks first mid room₁) list ++ written_for (read_ranks (suc mid) last room₂) list
-unfolding written_for
-written_joined list first mid last room room₁ room₂ before behind =
-    let both : rank_count first last ≡ rank_count first mid + rank_count (suc mid) last = omega arith in
-    let next : first + rank_count first mid ≡ suc mid = omega arith in
-    rw (both, take-add (rank_count first mid) (rank_count (suc mid) last) (drop first list), drop-drop (rank_count first mid) first list, next)
+written_joined = written.written_joined
 
 -- ---- a read of a sheet whose ranks stand
 
@@ -86,20 +83,13 @@ module _ (kind : Kind) (lawful : Lawful kind) (asks : Question → kind.calls.Qu
     abbrev rest : List ℕ
     rest = drop (rank_count first mid) output
 
-    -- The first read fills the front.
-    filled : drop (rank_count first mid) front ≡ []
-    filled = drop_take (rank_count first mid) (rank_count first mid) output ∙ rw (sub_self (rank_count first mid))
-
-    front_length : length front ≡ min (rank_count first mid) (length output)
-    front_length = length-take (rank_count first mid) output
-
-    rest_length : length rest ≡ length output - rank_count first mid
-    rest_length = length-drop (rank_count first mid) output
-
     -- The outputs joined are that of the read of the whole, where there is room for it.
     pub readings_joined : rank_count first last ≤ length output
         → (read first last tape output).output ≡ (read first mid tape₁ front).output ++ (read (suc mid) last tape₂ rest).output
     readings_joined room =
+        let filled : drop (rank_count first mid) front ≡ [] = drop_take (rank_count first mid) (rank_count first mid) output ∙ rw (sub_self (rank_count first mid)) in
+        let front_length : length front ≡ min (rank_count first mid) (length output) = length-take (rank_count first mid) output in
+        let rest_length : length rest ≡ length output - rank_count first mid = length-drop (rank_count first mid) output in
         let whole = read_made first last (omega arith) inside tape output room in
         let one = read_made first mid before (omega arith) tape₁ front (omega (arith, front_length)) in
         let other = read_made (suc mid) last behind inside tape₂ rest (omega (arith, rest_length)) in
@@ -114,24 +104,26 @@ module _ (kind : Kind) (lawful : Lawful kind) (asks : Question → kind.calls.Qu
           append-nil W₁,
           drop-drop (rank_count (suc mid) last) (rank_count first mid) output,
           count,
-          written_joined list first mid last (length output) (length front) (length rest) before behind,
+          written.written_joined list first mid last (length output) (length front) (length rest) before behind,
         )
         (append_assoc W₁ W₂ _)
 
     -- The whole is refused by cause 6 exactly when one of the two is.
     pub joined_refused : ((read first last tape output).answer ≡ Refused OutputShort)
         ↔ (((read first mid tape₁ front).answer ≡ Refused OutputShort) ⊎ ((read (suc mid) last tape₂ rest).answer ≡ Refused OutputShort))
-    joined_refused = (
-      λ refused.
-          let short = short_only first last (omega arith) inside tape output refused in
-          ⊎_elim
-          (λ few. inl (read_short first mid before (omega arith) tape₁ front (omega (arith, front_length))))
-          (λ enough. inr (read_short (suc mid) last behind inside tape₂ rest (omega (arith, rest_length))))
-          (lt_or_ge (length output) (rank_count first mid)),
-      λ either.
-          read_short first last (omega arith) inside tape output
-          (⊎_elim
-          (λ refused. omega (arith, front_length, short_only first mid before (omega arith) tape₁ front refused))
-          (λ refused. omega (arith, rest_length, short_only (suc mid) last behind inside tape₂ rest refused))
-          either),
-    )
+    joined_refused =
+        let front_length : length front ≡ min (rank_count first mid) (length output) = length-take (rank_count first mid) output in
+        let rest_length : length rest ≡ length output - rank_count first mid = length-drop (rank_count first mid) output in (
+          λ refused.
+              let short = short_only first last (omega arith) inside tape output refused in
+              ⊎_elim
+              (λ few. inl (read_short first mid before (omega arith) tape₁ front (omega (arith, front_length))))
+              (λ enough. inr (read_short (suc mid) last behind inside tape₂ rest (omega (arith, rest_length))))
+              (lt_or_ge (length output) (rank_count first mid)),
+          λ either.
+              read_short first last (omega arith) inside tape output
+              (⊎_elim
+              (λ refused. omega (arith, front_length, short_only first mid before (omega arith) tape₁ front refused))
+              (λ refused. omega (arith, rest_length, short_only (suc mid) last behind inside tape₂ rest refused))
+              either),
+        )

@@ -24,7 +24,7 @@ use Rattle.call_history.specs.History.{history, list_at_end, Sent, SentTo, clear
 use Rattle.call_history.proofs.Supply.{clear_leaves}
 use Rattle.call_history.proofs.Shares.{last_sheet}
 use Rattle.call_history.proofs.Clause.{words}
-use Rattle.call_history.specs.ClubSheets.{ClubSheet}
+use Rattle.call_history.proofs.ClubSheets.{ClubSheet}
 use Rattle.frame_lines.specs.declared.Frame.{Frame}
 use Rattle.frame_lines.specs.declared.Frame.TheVariants.{Insert, Delete, Read, Tape, Print, Clear, Place, NoFrame}
 use Rattle.frame_lines.specs.Frame.{frame_of}

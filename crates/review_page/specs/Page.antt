@@ -49,8 +49,8 @@ use Rattle.call_history.proofs.TapeRunsLaws as tapes
 use Rattle.call_history.proofs.Supply.{program_draws, history_supplied}
 use Rattle.call_history.proofs.PlainSupply.{plain_suppliable}
 use Rattle.call_history.proofs.Clause as clause
-use Rattle.call_history.specs.ClubSheets as sheets
-use Rattle.call_history.specs.ClubSheets.{ClubSheet}
+use Rattle.call_history.proofs.ClubSheets as sheets
+use Rattle.call_history.proofs.ClubSheets.{ClubSheet}
 use Rattle.store_layout.specs.EntryLaws as entries
 use Rattle.store_scoring.specs.Scoring.{retired_bit, tally, none_retired}
 use Rattle.store_tallies.specs.Tallies.{range_tallies}

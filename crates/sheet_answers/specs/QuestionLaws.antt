@@ -22,7 +22,7 @@ use Rattle.call_open.specs.declared.Opened.{Opened}
 use Rattle.call_open.specs.Opening.{plain_numbers, Opening, OpenedStore}
 use Rattle.call_open.specs.AdmittedLaws.{opened_store, plain_decoded, plain_sheet, plain_tallies}
 use Rattle.call_questions.specs.Asked.{asked, Answers, Readable, Tallied}
-use Rattle.call_questions.specs.AskedLaws as questions
+use Rattle.call_questions.proofs.AskedLaws as questions
 use Rattle.call_questions.specs.StartLaws.{decoded_list, laid}
 use Rattle.sheet_open.specs.PlainOpening.{PlainOpening}
 

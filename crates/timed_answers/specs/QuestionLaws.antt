@@ -13,7 +13,7 @@ use Rattle.call_open.specs.declared.Opened.TheVariants as opened
 use Rattle.call_open.specs.Opening.{plain_numbers, Opening, OpenedStore}
 use Rattle.call_open.specs.AdmittedLaws.{opened_store, plain_sheet}
 use Rattle.call_questions.specs.Asked.{asked, Answers, Readable, Tallied}
-use Rattle.call_questions.specs.AskedLaws as questions
+use Rattle.call_questions.proofs.AskedLaws as questions
 use Rattle.call_timed.specs.Timed.{timed_view, TimedStore, as_plain, timed, timed_store_of, timed_numbers, timed_outcome_of}
 use Rattle.call_timed.proofs.TimedLaws.{timed_as_plain}
 use Rattle.sheet_answers.specs.QuestionLaws.{numbers_tallied}

@@ -24,8 +24,8 @@ use Rattle.call_outcomes.proofs.PlainLaws.{plain_right}
 use Rattle.call_outcomes.specs.Clubs.{clubs}
 use Rattle.call_outcomes.proofs.ClubsLaws.{clubs_lawful}
 use Rattle.call_history.specs.Refusals.{refused_by}
-use Rattle.call_history.specs.SingleCalls.{answered_by_lem, changed_by_lem}
-use Rattle.call_history.specs.ClubSheets.{ClubSheet, no_sheet_decided}
+use Rattle.call_history.proofs.SingleCalls.{answered_by_lem, changed_by_lem}
+use Rattle.call_history.proofs.ClubSheets.{ClubSheet, no_sheet_decided}
 use Rattle.call_timed.specs.Timed.{balance_slice, timed_view, TimedStore, TimedLengths, insert_entry, delete_rank, plainly, find_entry, as_plain, timed_question_cause, found_at, timed_reply, timed_change_cause, timed, insert, delete, find, place, check}
 use Rattle.timed_history.specs.Clause.{clubs_timed}
 

@@ -11,7 +11,7 @@ use Rattle.call_outcomes.specs.Causes.{accept, looked_at, argument_cause, decisi
 use Rattle.call_outcomes.specs.Outcome.{list_after, outcome}
 use Rattle.call_outcomes.specs.DecisionLaws.{store_decided, accepted_by, question_outcome}
 use Rattle.call_history.specs.History.{next_list}
-use Rattle.call_history.specs.NextSheet.{next_sheet}
+use Rattle.call_history.proofs.NextSheet.{next_sheet}
 use Rattle.call_history.specs.Refusals.{refused_by}
 
 module _ (kind : Kind) (lawful : Lawful kind) (list : List ℕ) (store : StoreFor kind) (w : SheetOf kind.view list store) where

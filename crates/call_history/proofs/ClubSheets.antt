@@ -21,7 +21,7 @@ use Rattle.call_outcomes.specs.PlainCallLaws.{edit_list}
 use Rattle.call_outcomes.proofs.PlainLaws.{plain_right, no_sheet}
 use Rattle.call_outcomes.specs.Clubs.{clubs, zeros}
 use Rattle.call_outcomes.proofs.ClubsLaws.{clubs_lawful}
-use Rattle.call_history.specs.SingleCalls.{answered_by_lem, changed_by_lem}
+use Rattle.call_history.proofs.SingleCalls.{answered_by_lem, changed_by_lem}
 
 -- The store is a sheet of the list in the clubs' store: some size and balance entries lay it out.
 abbrev pub ClubSheet : List ℕ → PlainStore → Type 0
