@@ -25,8 +25,10 @@ def copy(place):
     for name in CRATES:
         for part in ["src", "specs", "proofs"]:
             source = pathlib.Path("crates") / name / part
-            if source.is_dir() and (name, part) != ("tree_rules", "proofs"):
-                shutil.copytree(source, place / "crates" / name / part)
+            # of the proofs of tree_rules the laws alone, which stand right in the folder
+            laws = (lambda folder, names: [n for n in names if not n.endswith(".antt")]) if (name, part) == ("tree_rules", "proofs") else None
+            if source.is_dir():
+                shutil.copytree(source, place / "crates" / name / part, ignore=laws)
     code = place / "crates/tree_rules/src/lib.rt"
     code.write_text(enums(code.read_text(encoding="utf-8")), encoding="utf-8")
 

@@ -1,5 +1,5 @@
-"""Reads the rows of a review table whose command tries must-fail edits. Each name in the cell before it, of_this_form and not in backticks, must be a
-crate or an edit of a crate that the command names, and each crate that it names must have an edit there."""
+"""Reads the rows of a review table whose command tries must-fail edits. Each name in the cell before it, `of_this_form`, must be a crate or an
+edit of a crate that the command names, and each crate that it names must have an edit there."""
 import os
 import re
 import sys
@@ -19,7 +19,7 @@ def main(path):
             continue
         crates = tried.group(1).split()
         edits = {crate: edits_of(crate) for crate in crates or everything}
-        cited = set(re.findall(r"\b[a-z0-9]+(?:_[a-z0-9]+)+\b", re.sub(r"`[^`]*`", "", line.split("|")[2]))) - set(everything)
+        cited = set(re.findall(r"\b[a-z0-9]+(?:_[a-z0-9]+)+\b", line.split("|")[2])) - set(everything)
         missing = cited - set().union(*edits.values())
         unnamed = [crate for crate in crates if not cited & edits[crate]]
         for name in sorted(missing):
