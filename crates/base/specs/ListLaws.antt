@@ -8,6 +8,7 @@ use native.Mathlib.Omega.{arith}
 use Rattle.std.proofs.Math.Nat.{add-zero, sub-zero, suc-sub-suc, zero-sub}
 use Rattle.std.proofs.Math.Seq.{take-nil}
 use Rattle.std.proofs.lemmas.List.{take-append-le, drop-append-le}
+use Rattle.std.specs.Cmp.Lexicographic.{pointwise}
 use Rattle.base.specs.Lists.{Every, total, tabulate, equal_lists}
 use Rattle.base.specs.CaseLaws.{eq_or_ne}
 use Rattle.base.specs.BoolLaws.{and_true_left, and_true_right}
@@ -189,3 +190,11 @@ equal_sound (x ∷ xs) (y ∷ ys) e =
     ap₂ (λ (z : ℕ) (zs : List ℕ). z ∷ zs)
     (eqb-true x y (and_true_left (eqb x y) (equal_lists xs ys) e))
     (equal_sound xs ys (and_true_right (eqb x y) (equal_lists xs ys) e))
+
+-- The library's comparison of two slices of numbers is this one.
+pub equal_pointwise : (xs ys : List ℕ) → pointwise eqb xs ys ≡ equal_lists xs ys
+unfolding equal_lists
+equal_pointwise [] [] = refl
+equal_pointwise [] (y ∷ ys) = refl
+equal_pointwise (x ∷ xs) [] = refl
+equal_pointwise (x ∷ xs) (y ∷ ys) = rw (equal_pointwise xs ys)

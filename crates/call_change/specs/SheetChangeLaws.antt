@@ -1,5 +1,5 @@
 -- An insert or delete that no cause before 7 refuses: what its steps ask, and what it comes to.
-use Rattle.std.specs.Prelude.{◌≡◌, refl, ◌≢◌, ℕ, ◌+◌, ◌-◌, ◌*◌, ◌^◌, ◌≤◌, ◌<◌, length, take, drop}
+use Rattle.std.specs.Prelude.{◌≡◌, refl, ◌≢◌, ℕ, ◌+◌, ◌*◌, ◌^◌, ◌≤◌, ◌<◌, length, take, drop, Option, Some, None, Ok, Err}
 use Rattle.std.proofs.Math.Path.{sym, ap, ap₂}
 use Rattle.std.proofs.Common.{◌∙◌, subst, arith}
 use Rattle.std.proofs.Math.Logic.{⊎_elim}
@@ -23,7 +23,6 @@ use Rattle.tree_counts.specs.RangeLaws.{balanced_perfect}
 use Rattle.tree_counts.specs.ShapeCountLaws.{length_shape_counts, shape_counts_size, shape_in_shape_counts}
 use Rattle.tree_counts.specs.Confined.{Within, Confined}
 use Rattle.tree_walk.specs.declared.Updated.{Updated}
-use Rattle.tree_walk.specs.declared.Updated.TheVariants as updated
 use Rattle.tree_walk.specs.Updated.{UpdatedAs}
 use Rattle.tree_update.specs.Update.{UpdateReady}
 use Rattle.store_layout.specs.declared.Capacity.{Capacity}
@@ -44,7 +43,7 @@ use Rattle.store_part.specs.PlanLaws.{plan}
 use Rattle.store_part.specs.LayPart.{part_entries, lay_entries, lay_part, LayReady}
 use Rattle.store_part.specs.KeepLaws.{slots_before, slots_behind}
 use Rattle.call_outcomes.specs.declared.Cause.TheVariants.{TapeEnded}
-use Rattle.call_outcomes.specs.declared.Answer.TheVariants.{Changed, Refused}
+use Rattle.call_outcomes.specs.declared.Answer.TheVariants.{Changed}
 use Rattle.call_outcomes.specs.Kind.{applied}
 use Rattle.call_outcomes.specs.Outcome.{refused, outcome}
 use Rattle.call_outcomes.specs.ChangeLaws.{outcome_drawn, outcome_ended}
@@ -65,24 +64,25 @@ pub record Drawn (change : Change) (n : ℕ) (s : Shape) (run : Ran Shape) (room
   pub counts_are : counts ≡ shape_counts room (count_after change n) shape
   pub confined : Confined change s shape part
 
-answer_done : (change : Change) (n : ℕ) (s : Shape) (run : Ran Shape) (answer : Updated) (room : ℕ) (counts : List ℕ) (m : ℕ) (part : Part) (next : ℕ)
-    → UpdatedAs change n s run answer room counts → answer ≡ updated.Done m part next → Drawn change n s run room m part next counts
+answer_done : (change : Change) (n : ℕ) (s : Shape) (run : Ran Shape) (answer : Option Updated) (room : ℕ) (counts : List ℕ) (m : ℕ) (part : Part) (next : ℕ)
+    → UpdatedAs change n s run answer room counts → answer ≡ Some (record { m = m; part = part; next = next }) → Drawn change n s run room m part next counts
 unfolding UpdatedAs
 answer_done change n s (ran shape next') answer room counts m part next w e =
-    let same : updated.Done shape.size w.0 next' ≡ updated.Done m part next = sym w.1 ∙ e in
-    let next_is : next' ≡ next = cc in
-    let part_is : w.0 ≡ part = cc in
+    let both : Some (record { m = shape.size; part = w.0; next = next' }) ≡ Some (record { m = m; part = part; next = next }) = sym w.1 ∙ e in
+    let same : ◌≡◌ {A = Updated} (record { m = shape.size; part = w.0; next = next' }) (record { m = m; part = part; next = next }) = cc in
+    let next_is : next' ≡ next = ap (λ u. u.next) same in
+    let part_is : w.0 ≡ part = ap (λ u. u.part) same in
     record {
       shape = shape;
       run_is = rw next_is;
-      size_is = cc;
+      size_is = ap (λ u. u.m) same;
       counts_are = w.2;
       confined = subst (Confined change s shape) part_is w.3;
     }
 answer_done change n s ended answer room counts m part next w e = let z : ◌≡◌ {A = ℕ} 0 1 = cc in absurd (omega arith)
 
-answer_ended : (change : Change) (n : ℕ) (s : Shape) (run : Ran Shape) (answer : Updated) (room : ℕ) (counts : List ℕ)
-    → UpdatedAs change n s run answer room counts → answer ≡ updated.Ended → run ≡ ended
+answer_ended : (change : Change) (n : ℕ) (s : Shape) (run : Ran Shape) (answer : Option Updated) (room : ℕ) (counts : List ℕ)
+    → UpdatedAs change n s run answer room counts → answer ≡ None → run ≡ ended
 unfolding UpdatedAs
 answer_ended change n s (ran shape next) answer room counts w e = let z : ◌≡◌ {A = ℕ} 0 1 = cc w.1 in absurd (omega arith)
 answer_ended change n s ended answer room counts w e = refl
@@ -199,7 +199,7 @@ module _ {cap : Capacity} (ready : CapacityReady cap) {change : Change} {e n m :
     new_room = λ M a. rw work_length (ready.roomy.counts_fit (count_after change n) M within.1 a);
   }
 
-  module _ (tape : List ℕ) (answer : Updated) (work' : List ℕ)
+  module _ (tape : List ℕ) (answer : Option Updated) (work' : List ℕ)
       (w : UpdatedAs change n (shape_in work) (run_at (update change n (shape_in work)) tape 0) answer (length work) work') where
     updated_as : UpdatedAs change n c.shape (run_at (update change n c.shape) tape 0) answer cap.counts work'
     updated_as = rw (shape_in_lem, work_length) at w
@@ -210,8 +210,8 @@ module _ {cap : Capacity} (ready : CapacityReady cap) {change : Change} {e n m :
 
     -- ---- the tape ended
 
-    pub change_ended : answer ≡ updated.Ended
-        → outcome_of (Refused TapeEnded) slots counts [] ≡ outcome (untallied cap) (changing change e) tape (store_of slots counts) []
+    pub change_ended : answer ≡ None
+        → outcome_of (Err TapeEnded) slots counts [] ≡ outcome (untallied cap) (changing change e) tape (store_of slots counts) []
     unfolding refused
     change_ended h =
         sym
@@ -220,7 +220,7 @@ module _ {cap : Capacity} (ready : CapacityReady cap) {change : Change} {e n m :
 
     -- ---- everything was drawn
 
-    module _ (m' : ℕ) (part : Part) (next : ℕ) (done : answer ≡ updated.Done m' part next) where
+    module _ (m' : ℕ) (part : Part) (next : ℕ) (done : answer ≡ Some (record { m = m'; part = part; next = next })) where
       drawn : Drawn change n c.shape (run_at (update change n c.shape) tape 0) cap.counts m' part next work'
       drawn = answer_done change n c.shape (run_at (update change n c.shape) tape 0) answer cap.counts work' m' part next updated_as done
 
@@ -361,7 +361,7 @@ module _ {cap : Capacity} (ready : CapacityReady cap) {change : Change} {e n m :
 
       pub change_done : (after : ℕ) (slots' counts' : List ℕ) → after ≡ count_after change n
           → store_of slots' counts' ≡ written d work' (store_of slots counts)
-          → outcome_of (Changed after next) slots' counts' [] ≡ outcome (untallied cap) (changing change e) tape (store_of slots counts) []
+          → outcome_of (Ok (Changed after next)) slots' counts' [] ≡ outcome (untallied cap) (changing change e) tape (store_of slots counts) []
       unfolding lay_out lay_counts written
       change_done after slots' counts' a Store-is =
           laid ∙ sym (outcome_drawn (untallied cap) (plain_change change e) tape (store_of slots counts) c p.admitted.decided drawn.shape next (run_is ∙ drawn.run_is))
@@ -384,10 +384,10 @@ module _ {cap : Capacity} (ready : CapacityReady cap) {change : Change} {e n m :
               ∙ ap₂ (λ (M : ℕ) (xs : List ℕ). count_order (height M) xs) (sym drawn.size_is)
               (work'-are ∙ ap (λ (j : ℕ). shape_counts cap.counts j drawn.shape) number_after)
 
-          laid : outcome_of (Changed after next) slots' counts' []
+          laid : outcome_of (Ok (Changed after next)) slots' counts' []
               ≡ record {
-                answer = Changed (count_after (edit_of (plain_change change e)).change (length c.list)) next;
+                answer = Ok (Changed (count_after (edit_of (plain_change change e)).change (length c.list)) next);
                 store = lay_out cap (applied (edit_of (plain_change change e)) c.list) drawn.shape;
                 output = [];
               }
-          laid = λ i. outcome_of (Changed (number i) next) (new_slots i) (new_counts i) []
+          laid = λ i. outcome_of (Ok (Changed (number i) next)) (new_slots i) (new_counts i) []

@@ -1,7 +1,7 @@
 // An insert or a delete that no cause before 7 refuses, written into the store once everything is drawn.
 #![tactic(auto)]
 
-ghost use Rattle.std.specs.Prelude.{◌≡◌, ◌+◌, ◌<◌, length};
+ghost use Rattle.std.specs.Prelude.{◌≡◌, ◌+◌, ◌<◌, ◌^◌, length};
 ghost use Rattle.call_outcomes.specs.Untallied.{store_of};
 ghost use Rattle.call_change.specs.SheetChange.{entries_before, WriteReady, written};
 
@@ -42,4 +42,21 @@ pub fn write_change(
     let first = store_part::first_leaf(new, part);
     let last = store_part::last_leaf(new, part);
     store_counts::put_numbers(new, part.range, first, last, work, counts);
+}
+
+// The same by a list of its own, which has room for ROOM entries.
+pub fn write_by_list<const ROOM: usize>(
+    slots: &mut [u64],
+    counts: &mut [u32],
+    work: &[u32],
+    drawn: DrawnChange,
+)
+    requires ready { WriteReady drawn (store_of slots.old counts.old) work.now }
+    requires room { length (entries_before drawn slots.old) + 1 < ROOM }
+    requires most { ROOM < 2 ^ 32 }
+    ensures { store_of slots.new counts.new
+        ≡ written drawn work.now (store_of slots.old counts.old) }
+{
+    let mut list = [0u64; ROOM];
+    write_change(slots, counts, work, &mut list, drawn);
 }

@@ -1,20 +1,18 @@
 -- Corrections (document 02, F-10): an insert that is taken back, on any sheet of any kind; and of plain sheets, in any store with room for
 -- `entries`, two inserts in either order and an insert that is taken back.
-use Rattle.std.specs.Prelude.{◌≡◌, true, ◌≢◌, ℕ, suc, ◌+◌, ◌≤◌, ◌<◌, length}
-use Rattle.std.proofs.Math.Path.{sym}
+use Rattle.std.specs.Prelude.{Ok, ◌≡◌, true, ◌≢◌, ℕ, suc, ◌+◌, ◌≤◌, ◌<◌, length}
 use Rattle.std.proofs.Common.{◌∙◌, arith}
 use mathlib.Core.List.{List, [], ◌∷◌, ◌++◌}
 use Rattle.std.proofs.Math.Option.{none}
-use borrow.Author.Tests.{ne_eqb, le-ltb, lt-leb}
 use Rattle.tree_rules.specs.declared.Change.TheVariants.{Insert, Delete}
 use Rattle.tree_rules.specs.Rules.{InReach}
 use Rattle.tree_rules.specs.ChangeList.{change_list}
-use Rattle.tree_rules.specs.ChangeListLaws.{length_inserted, inserts_either_order, insert_delete}
+use Rattle.tree_rules.specs.ChangeListLaws.{length_inserted, insert_delete}
 use Rattle.call_outcomes.specs.declared.Answer.TheVariants.{Changed}
 use Rattle.call_outcomes.specs.Kind.{View, SheetOf, applied, change, Kind, Lawful, StoreFor}
-use Rattle.call_outcomes.specs.Causes.{first_of, argument_cause}
+use Rattle.call_outcomes.specs.Causes.{argument_cause}
 use Rattle.call_outcomes.specs.Outcome.{list_after, outcome}
-use Rattle.call_outcomes.specs.PlainCalls.{change_cause, edit_of, plain_calls, Call, insert, delete}
+use Rattle.call_outcomes.specs.PlainCalls.{edit_of, plain_calls, Call, insert, delete}
 use Rattle.call_history.specs.History.{history, final_list, list_at_end, SameTable}
 use Rattle.call_history.proofs.SingleCalls.{made_free, changed_by_lem}
 use Rattle.call_corrections.proofs.InsertOrders as orders
@@ -26,8 +24,8 @@ use Rattle.call_corrections.specs.Exchange.{two_lead, two_accepted, parts_exchan
 pub back_sheet : (kind : Kind) → Lawful kind → (list : List ℕ) (store : StoreFor kind) → SheetOf kind.view list store
     → (c c' : kind.calls.ChangeCall) (i e e' : ℕ) → kind.calls.edit c list ≡ record { change = Insert i; entry = e }
     → kind.calls.edit c' (change_list (Insert i) e list) ≡ record { change = Delete i; entry = e' }
-    → (tape tape' output output' : List ℕ) (n n' words words' : ℕ) → (outcome kind (change c) tape store output).answer ≡ Changed n words
-    → (outcome kind (change c') tape' (outcome kind (change c) tape store output).store output').answer ≡ Changed n' words'
+    → (tape tape' output output' : List ℕ) (n n' words words' : ℕ) → (outcome kind (change c) tape store output).answer ≡ Ok (Changed n words)
+    → (outcome kind (change c') tape' (outcome kind (change c) tape store output).store output').answer ≡ Ok (Changed n' words')
     → SheetOf kind.view list (outcome kind (change c') tape' (outcome kind (change c) tape store output).store output').store
 unfolding InReach applied
 back_sheet kind lawful list store w c c' i e e' puts takes tape tape' output output' n n' words words' made made' =

@@ -1,9 +1,10 @@
 -- The values in an answer slice, and when an outcome is handed over.
-use Rattle.std.specs.Prelude.{◌≡◌, ℕ, ◌≤◌, ◌<◌, length, set}
+use Rattle.std.specs.Prelude.{Result, ◌≡◌, ℕ, ◌≤◌, ◌<◌, length, set}
 use Rattle.std.proofs.Math.Path.{refl, sym}
 use mathlib.Core.List.{List, [], ◌∷◌}
 use Rattle.std.proofs.Common.{arith}
 use Rattle.base.specs.CaseLaws.{if_lt_yes, if_lt_no}
+use Rattle.call_outcomes.specs.declared.Cause.{Cause}
 use Rattle.call_outcomes.specs.declared.Returned.{Returned}
 use Rattle.call_outcomes.specs.declared.Answer.{Answer}
 use Rattle.call_outcomes.specs.Returns.{returned}
@@ -39,7 +40,7 @@ module _ {S : Type 0} (values : ℕ) (o : Outcome S) (store : S) (output answer 
   handed_short l = sym (if_lt_yes (length answer) values _ _ l)
 
   -- an answer slice with room
-  pub handed_done : {given : Answer} {store' : S} {output' : List ℕ} {back : Returned} {r : ℕ} {answer' : List ℕ} → values ≤ length answer
+  pub handed_done : {given : Result Answer Cause} {store' : S} {output' : List ℕ} {back : Returned} {r : ℕ} {answer' : List ℕ} → values ≤ length answer
       → record { answer = given; store = store'; output = output' } ≡ o
       → back ≡ returned given → (r ≡ back.number) × (answer' ≡ filled values back answer)
       → record { number = r; store = store'; output = output'; answer = answer' } ≡ handed_over values o store output answer

@@ -1,5 +1,5 @@
 -- What single calls do to the clubs' sheets.
-use Rattle.std.specs.Prelude.{◌≡◌, refl, List, [], ◌∷◌, ℕ, ◌<◌, length}
+use Rattle.std.specs.Prelude.{Ok, Err, ◌≡◌, refl, List, [], ◌∷◌, ℕ, ◌<◌, length}
 use Rattle.std.proofs.Common.{◌∙◌}
 use Rattle.std.proofs.lemmas.Bool.{lt-leb}
 use Rattle.tree_rules.specs.declared.Change.{Change}
@@ -9,7 +9,7 @@ use Rattle.store_layout.specs.EmptyLaws.{one_empty, empty_slots, empty_counts}
 use Rattle.store_tallies.specs.LayLaws.{empty_tallies}
 use Rattle.store_ties.specs.Ties.{placing_in}
 use Rattle.call_outcomes.specs.declared.Cause.TheVariants.{NotASheet}
-use Rattle.call_outcomes.specs.declared.Answer.TheVariants.{Checked, Changed, Refused}
+use Rattle.call_outcomes.specs.declared.Answer.TheVariants.{Checked, Changed}
 use Rattle.call_outcomes.specs.Kind.{Found, holds, wrong, SheetOf}
 use Rattle.call_outcomes.specs.KindLaws.{decoded_sheet}
 use Rattle.call_outcomes.specs.Causes.{first_of, refuse, by_lengths, by_found, store_decision, looked_at, by_arguments, decision}
@@ -31,7 +31,7 @@ ClubSheet = SheetOf (plain_view clubs)
 
 -- A check of a sheet answers with the length of its list.
 pub check_sheet : (list : List ℕ) (store : PlainStore) → ClubSheet list store → (tape output : List ℕ)
-    → (outcome (plain clubs) check tape store output).answer ≡ Checked (length list)
+    → (outcome (plain clubs) check tape store output).answer ≡ Ok (Checked (length list))
 unfolding reply_to question_cause
 check_sheet list store w = answered_by_lem (plain clubs) clubs_lawful list store w count_of refl
 
@@ -46,7 +46,7 @@ no_sheet_decided store right none_is = rw (plain_right clubs store right) (go ((
     go (holds c) e = absurd (none_is c.list (decoded_sheet (plain_view clubs) clubs_lawful.view store c e))
 
 pub check_other : (store : PlainStore) → PlainLengths clubs store → ((list : List ℕ) → ClubSheet list store → ⊥) → (tape output : List ℕ)
-    → (outcome (plain clubs) check tape store output).answer ≡ Refused NotASheet
+    → (outcome (plain clubs) check tape store output).answer ≡ Err NotASheet
 unfolding decision looked_at by_arguments refused
 check_other store right none_is tape output =
     rw (outcome_refused (plain clubs) check store tape output NotASheet (rw (no_sheet_decided store right none_is)))
@@ -55,7 +55,7 @@ check_other store right none_is tape output =
 
 -- A place of an entry is answered by the list: that of her tied group.
 pub place_sheet : (list : List ℕ) (store : PlainStore) → ClubSheet list store → (i : ℕ) → i < length list → (tape output : List ℕ)
-    → (outcome (plain clubs) (place i) tape store output).answer ≡ placed (placing_in list i)
+    → (outcome (plain clubs) (place i) tape store output).answer ≡ Ok (placed (placing_in list i))
 unfolding reply_to question_cause first_of
 place_sheet list store w i below = answered_by_lem (plain clubs) clubs_lawful list store w (place_of i) (rw (lt-leb (length list) i below))
 
@@ -63,7 +63,7 @@ place_sheet list store w i below = answered_by_lem (plain clubs) clubs_lawful li
 
 -- An accepted insert or delete on any sheet leaves a sheet of the changed list.
 pub changed_sheet : (list : List ℕ) (store : PlainStore) → ClubSheet list store → (by : Change) (entry : ℕ) (tape output : List ℕ) (n words : ℕ)
-    → (outcome (plain clubs) (changing by entry) tape store output).answer ≡ Changed n words
+    → (outcome (plain clubs) (changing by entry) tape store output).answer ≡ Ok (Changed n words)
     → ClubSheet (change_list by entry list) (outcome (plain clubs) (changing by entry) tape store output).store
 changed_sheet list store w by entry tape output n words done =
     rw (← edit_list by entry list) (changed_by_lem (plain clubs) clubs_lawful list store w (plain_change by entry) tape output n words done)
@@ -77,7 +77,7 @@ empty_zeros store w =
 
 -- A delete of the last entry leaves zeros.
 pub last_deleted : (e : ℕ) (store : PlainStore) → ClubSheet (e ∷ []) store → (tape output : List ℕ) (n words : ℕ)
-    → (outcome (plain clubs) (delete 0) tape store output).answer ≡ Changed n words
+    → (outcome (plain clubs) (delete 0) tape store output).answer ≡ Ok (Changed n words)
     → (outcome (plain clubs) (delete 0) tape store output).store ≡ zeros
 unfolding change_list
 last_deleted e store w tape output n words done = empty_zeros _ (changed_sheet (e ∷ []) store w (Delete 0) 0 tape output n words done)

@@ -1,5 +1,5 @@
 -- A call on any sheet of a list leaves a sheet of the next list, unless it returns 7.
-use Rattle.std.specs.Prelude.{◌≡◌, ◌≢◌, ℕ, length}
+use Rattle.std.specs.Prelude.{Err, ◌≡◌, ◌≢◌, ℕ, length}
 use Rattle.std.proofs.Math.Path.{refl}
 use mathlib.Core.List.{List, []}
 use Rattle.std.proofs.Math.Option.{Option, some, none}
@@ -13,7 +13,6 @@ use Rattle.tree_rules.proofs.ShapeLaws.{update_ends}
 use Rattle.tree_rules.specs.ChangeListLaws.{length_changed}
 use Rattle.call_outcomes.specs.declared.Cause.{Cause}
 use Rattle.call_outcomes.specs.declared.Cause.TheVariants.{TapeEnded}
-use Rattle.call_outcomes.specs.declared.Answer.TheVariants.{Refused}
 use Rattle.call_outcomes.specs.Kind.{View, SheetOf, Edit, applied, clear, change, ask, Kind, Lawful, CallFor, StoreFor}
 use Rattle.call_outcomes.specs.Causes.{argument_cause}
 use Rattle.call_outcomes.specs.Outcome.{list_after, edited, effect, outcome, call_program}
@@ -51,7 +50,7 @@ module _ (kind : Kind) (lawful : Lawful kind) (list : List ℕ) (s : Shape) (w :
       go (some cause) h = ends_done _ _ record { shape = s; is_list = w; is_shape = shape; laid = refl }
 
 pub next_sheet : (kind : Kind) → Lawful kind → (list : List ℕ) (store : StoreFor kind) → SheetOf kind.view list store
-    → (call : CallFor kind) (tape output : List ℕ) → (outcome kind call tape store output).answer ≢ Refused TapeEnded
+    → (call : CallFor kind) (tape output : List ℕ) → (outcome kind call tape store output).answer ≢ Err TapeEnded
     → SheetOf kind.view (next_list kind call list) (outcome kind call tape store output).store
 next_sheet kind lawful list store w call tape output go_on =
     follows_ends (SheetOf kind.view (next_list kind call list)) (call_program kind call store) _ _

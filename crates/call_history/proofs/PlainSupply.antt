@@ -1,14 +1,13 @@
 -- Coins can be supplied for every course of a history of plain sheets of any capacity.
-use Rattle.std.specs.Prelude.{◌≡◌, ◌≢◌, List, ℕ}
+use Rattle.std.specs.Prelude.{◌≢◌, List, ℕ}
 use Rattle.std.proofs.Math.Option.{some}
 use Rattle.std.proofs.Common.{arith}
 use Rattle.store_layout.specs.declared.Capacity.{Capacity}
 use Rattle.store_layout.specs.Room.{CapacityReady}
 use Rattle.call_outcomes.specs.declared.Cause.TheVariants.{BoardRanks, EntryZero, Rank, Full, OutputShort, TapeEnded}
-use Rattle.call_outcomes.specs.declared.Answer.TheVariants.{Refused}
 use Rattle.call_outcomes.specs.Kind.{clear, change, ask}
 use Rattle.call_outcomes.specs.Causes.{argument_cause}
-use Rattle.call_outcomes.specs.PlainCalls.{insert_at, delete_at, change_cause, Question, read_ranks, place_of, count_of, board_of, question_cause, reply_to, Call}
+use Rattle.call_outcomes.specs.PlainCalls.{insert_at, delete_at, change_cause, read_ranks, place_of, count_of, board_of, question_cause, Call}
 use Rattle.call_outcomes.specs.Plain.{plain}
 use Rattle.call_history.proofs.Supply.{Suppliable, first_other, none_ended}
 
@@ -24,12 +23,5 @@ cause_not_ended cap (ask count_of) list = none_ended
 cause_not_ended cap (ask (board_of ranks room)) list =
     first_other _ BoardRanks _ (omega arith) (first_other _ Rank _ (omega arith) (first_other _ OutputShort _ (omega arith) none_ended))
 
-reply_not_ended : (q : Question) (list : List ℕ) → reply_to q list ≢ Refused TapeEnded
-unfolding reply_to
-reply_not_ended (read_ranks first last room) list e = let z : ◌≡◌ {A = ℕ} 0 1 = cc in omega arith
-reply_not_ended (place_of i) list e = let z : ◌≡◌ {A = ℕ} 0 1 = cc in omega arith
-reply_not_ended count_of list e = let z : ◌≡◌ {A = ℕ} 0 1 = cc in omega arith
-reply_not_ended (board_of ranks room) list e = let z : ◌≡◌ {A = ℕ} 0 1 = cc in omega arith
-
 pub plain_suppliable : {cap : Capacity} → CapacityReady cap → Suppliable (plain cap)
-plain_suppliable {cap} ready = record { few = λ list w. omega (arith, w.room, ready.few); no_cause = cause_not_ended cap; no_reply = reply_not_ended }
+plain_suppliable {cap} ready = record { few = λ list w. omega (arith, w.room, ready.few); no_cause = cause_not_ended cap }

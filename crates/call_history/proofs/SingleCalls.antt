@@ -1,11 +1,11 @@
 -- What single calls do to a sheet, for any kind of sheet.
 use Rattle.std.proofs.Math.Path.{◌≡◌}
-use Rattle.std.specs.Prelude.{refl, List, ◌++◌, ℕ, length, drop}
+use Rattle.std.specs.Prelude.{Ok, Err, refl, List, ◌++◌, ℕ, length, drop}
 use Rattle.std.proofs.Math.Option.{Option, some, none}
 use Rattle.std.proofs.Common.{arith}
 use Rattle.store_layout.specs.Decode.{Contents}
 use Rattle.call_outcomes.specs.declared.Cause.{Cause}
-use Rattle.call_outcomes.specs.declared.Answer.TheVariants.{Changed, Refused}
+use Rattle.call_outcomes.specs.declared.Answer.TheVariants.{Changed}
 use Rattle.call_outcomes.specs.Kind.{SheetOf, applied, change, ask, Kind, Lawful, CallFor, StoreFor}
 use Rattle.call_outcomes.specs.Causes.{accept, looked_at, argument_cause, decision}
 use Rattle.call_outcomes.specs.Outcome.{list_after, outcome}
@@ -19,7 +19,7 @@ module _ (kind : Kind) (lawful : Lawful kind) (list : List ℕ) (store : StoreFo
   pub question_by : (q : kind.calls.Question) → kind.calls.question_cause q list ≡ none → (tape output : List ℕ)
       → outcome kind (ask q) tape store output
       ≡ record {
-        answer = kind.calls.reply q list;
+        answer = Ok (kind.calls.reply q list);
         store = store;
         output = kind.calls.written q list ++ drop (length (kind.calls.written q list)) output;
       }
@@ -33,11 +33,11 @@ module _ (kind : Kind) (lawful : Lawful kind) (list : List ℕ) (store : StoreFo
       question_outcome kind q tape store output before decided
 
   pub answered_by_lem : (q : kind.calls.Question) → kind.calls.question_cause q list ≡ none → (tape output : List ℕ)
-      → (outcome kind (ask q) tape store output).answer ≡ kind.calls.reply q list
+      → (outcome kind (ask q) tape store output).answer ≡ Ok (kind.calls.reply q list)
   answered_by_lem q free tape output = rw (question_by q free tape output)
 
   -- A call whose answer is no refusal is refused by no cause of its arguments.
-  pub not_refused : (call : CallFor kind) (tape output : List ℕ) → ((cause : Cause) → (outcome kind call tape store output).answer ≡ Refused cause → ⊥)
+  pub not_refused : (call : CallFor kind) (tape output : List ℕ) → ((cause : Cause) → (outcome kind call tape store output).answer ≡ Err cause → ⊥)
       → argument_cause kind call list ≡ none
   not_refused call tape output answered = go (argument_cause kind call list) refl
     where
@@ -46,7 +46,7 @@ module _ (kind : Kind) (lawful : Lawful kind) (list : List ℕ) (store : StoreFo
       go (some cause) e = absurd (answered cause (refused_by kind lawful list store w call cause e tape output))
 
   -- So is a change that is made, and it leaves a sheet of the changed list.
-  module _ (c : kind.calls.ChangeCall) (tape output : List ℕ) (n words : ℕ) (made : (outcome kind (change c) tape store output).answer ≡ Changed n words) where
+  module _ (c : kind.calls.ChangeCall) (tape output : List ℕ) (n words : ℕ) (made : (outcome kind (change c) tape store output).answer ≡ Ok (Changed n words)) where
     pub made_free : kind.calls.change_cause c list ≡ none
     unfolding argument_cause
     made_free = not_refused (change c) tape output (λ cause refusal. let z : ◌≡◌ {A = ℕ} 0 1 = cc in omega arith)

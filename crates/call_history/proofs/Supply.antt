@@ -1,7 +1,7 @@
 -- Coins can be supplied: for every course of a history there are tapes such that no call returns 7 and the words decide this very course.
 use Rattle.std.proofs.Math.Path.{◌≡◌, refl, sym, ap, ap₂}
 use Rattle.std.proofs.Common.{◌∙◌}
-use Rattle.std.specs.Prelude.{Bool, true, false, ◌≢◌, ℕ, ◌+◌, ◌*◌, ◌≤◌, ◌^◌, length}
+use Rattle.std.specs.Prelude.{Ok, Err, Bool, true, false, ◌≢◌, ℕ, ◌+◌, ◌*◌, ◌≤◌, ◌^◌, length}
 use mathlib.Core.List.{List, [], ◌∷◌, ◌++◌}
 use Rattle.std.proofs.Math.Option.{Option, some, none}
 use native.Mathlib.Omega.{arith}
@@ -18,7 +18,7 @@ use Rattle.tree_rules.specs.Rules.{update}
 use Rattle.tree_rules.proofs.DrawBounds.{update_draws}
 use Rattle.call_outcomes.specs.declared.Cause.{Cause}
 use Rattle.call_outcomes.specs.declared.Cause.TheVariants.{TapeEnded}
-use Rattle.call_outcomes.specs.declared.Answer.TheVariants.{Cleared, Refused}
+use Rattle.call_outcomes.specs.declared.Answer.TheVariants.{Cleared}
 use Rattle.call_outcomes.specs.Returns.{cause_number}
 use Rattle.call_outcomes.specs.Kind.{SheetOf, empty, Edit, clear, change, ask, Kind, Lawful, CallFor, StoreFor}
 use Rattle.call_outcomes.specs.Causes.{first_of, Decision, refuse, accept, by_lengths, looked_at, argument_cause, by_arguments, decision}
@@ -28,11 +28,10 @@ use Rattle.call_history.specs.CallKeeps.{empty_sheets, sheets_end, program_on, s
 use Rattle.call_history.proofs.Independence.{clear_program}
 use Rattle.call_history.proofs.NextSheet.{next_sheet}
 
--- What is asked of a kind: its lists are short enough that 32-bit words decide every draw, and 7 is neither a cause of arguments nor a reply.
+-- What is asked of a kind: its lists are short enough that 32-bit words decide every draw, and 7 is no cause of the arguments.
 pub record Suppliable (kind : Kind) : Type 0 where
   pub few : (list : List ℕ) → kind.view.IsList list → 2 * length list + 2 ≤ 2 ^ 32
   pub no_cause : (call : CallFor kind) (list : List ℕ) → argument_cause kind call list ≢ some TapeEnded
-  pub no_reply : (q : kind.calls.Question) (list : List ℕ) → kind.calls.reply q list ≢ Refused TapeEnded
 
 -- A cause other than 7 decides, or none of the later ones is 7.
 pub first_other : (test : Bool) (cause : Cause) (later : Option Cause) → cause_number cause ≢ 7 → later ≢ some TapeEnded → first_of test cause later ≢ some TapeEnded
@@ -53,13 +52,13 @@ pub record Supplied (kind : Kind) (calls : List (CallFor kind)) (store : StoreFo
 
 -- The same of one call.
 record Decided (kind : Kind) (call : CallFor kind) (store : StoreFor kind) (tape faces : List ℕ) (v : StoreFor kind) : Type 0 where
-  goes_on : (outcome kind call tape store []).answer ≢ Refused TapeEnded
+  goes_on : (outcome kind call tape store []).answer ≢ Err TapeEnded
   faces_are : faces_on (call_program kind call store) tape 0 ≡ faces
   store_is : (outcome kind call tape store []).store ≡ v
 
 -- A store of the right lengths is cleared, whatever it holds, and no word is read.
 pub clear_leaves : (kind : Kind) (store : StoreFor kind) → kind.view.right_lengths store ≡ true
-    → ((outcome kind clear [] store []).answer ≡ Cleared) × ((outcome kind clear [] store []).store ≡ kind.view.lay empty.list empty.shape)
+    → ((outcome kind clear [] store []).answer ≡ Ok Cleared) × ((outcome kind clear [] store []).store ≡ kind.view.lay empty.list empty.shape)
     × (faces_on (call_program kind clear store) [] 0 ≡ [])
 unfolding outcome call_program decision looked_at by_lengths by_arguments argument_cause outcome_by call_program_by effect finished run_at answer_of faces_on
 clear_leaves kind store right = (rw right, rw right, rw right)
@@ -95,12 +94,6 @@ module _ (kind : Kind) (lawful : Lawful kind) (can : Suppliable kind) where
       go none h = h refl
       go (some cause) h = draws_done _ _
 
-  answer_goes_on : (call : CallFor kind) (list : List ℕ) (words : ℕ) → answer_of kind call list words ≢ Refused TapeEnded
-  unfolding answer_of
-  answer_goes_on clear list words e = let z : ◌≡◌ {A = ℕ} 0 1 = cc in omega arith
-  answer_goes_on (change c) list words e = let z : ◌≡◌ {A = ℕ} 0 1 = cc in omega arith
-  answer_goes_on (ask q) list words e = can.no_reply q list e
-
   -- A course of a call on a sheet is decided by its tape.
   call_supplied : (list : List ℕ) (store : StoreFor kind) → SheetOf kind.view list store → (call : CallFor kind) (faces : List ℕ) (v : StoreFor kind)
       → Follows (call_program kind call store) faces v → Decided kind call store (course_tape (call_program kind call store) faces) faces v
@@ -113,7 +106,7 @@ module _ (kind : Kind) (lawful : Lawful kind) (can : Suppliable kind) where
       record { goes_on = g.0; faces_are = g.1; store_is = g.2 }
     where
       go : (d : Decision) → refusal_of d ≡ argument_cause kind call list → (tape : List ℕ) → Reads (call_program_by kind call store d) tape 0 faces v
-          → ((outcome_by kind call tape store [] d).answer ≢ Refused TapeEnded) × (faces_on (call_program_by kind call store d) tape 0 ≡ faces)
+          → ((outcome_by kind call tape store [] d).answer ≢ Err TapeEnded) × (faces_on (call_program_by kind call store d) tape 0 ≡ faces)
           × ((outcome_by kind call tape store [] d).store ≡ v)
       go (refuse cause) e tape r = (
         λ h. can.no_cause call list (sym e ∙ ap some (let same : cause ≡ TapeEnded = cc in same)),
@@ -122,7 +115,7 @@ module _ (kind : Kind) (lawful : Lawful kind) (can : Suppliable kind) where
             let same : store ≡ v = cc in same,
       )
       go (accept before) e tape r = (
-        λ h. answer_goes_on call before.list (length tape) (rw r.ends at h),
+        λ h. let made = rw r.ends at h in let z : ◌≡◌ {A = ℕ} 0 1 = cc in omega arith,
         r.faces_are,
         rw r.ends,
       )

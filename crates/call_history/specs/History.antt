@@ -1,5 +1,5 @@
 -- Histories of any kind of sheet, and their tables of shares (document 01, "Histories and shares"). Definitions only.
-use Rattle.std.specs.Prelude.{◌≢◌, List, [], ◌∷◌, ◌++◌, ℕ}
+use Rattle.std.specs.Prelude.{Err, ◌≢◌, List, [], ◌∷◌, ◌++◌, ℕ}
 use Rattle.std.proofs.Math.Option.{Option, some, none}
 use Rattle.draw_shares.specs.Program.{Program, done, ◌>>=◌}
 use Rattle.draw_shares.specs.Tape.{faces_on}
@@ -7,7 +7,6 @@ use Rattle.draw_shares.specs.Fraction.{◌≐◌}
 use Rattle.draw_shares.specs.Course.{share}
 use Rattle.call_outcomes.specs.declared.Cause.{Cause}
 use Rattle.call_outcomes.specs.declared.Cause.TheVariants.{TapeEnded}
-use Rattle.call_outcomes.specs.declared.Answer.TheVariants.{Refused}
 use Rattle.call_outcomes.specs.Kind.{View, clear, Kind, CallFor, StoreFor}
 use Rattle.call_outcomes.specs.Causes.{argument_cause, Decision, refuse, accept}
 use Rattle.call_outcomes.specs.Outcome.{list_after, outcome, call_program}
@@ -75,7 +74,7 @@ last_store kind (sent ∷ rest) store = last_store kind rest (store_after kind s
 unfoldable pub NoneEnds : (kind : Kind) → List (SentTo kind) → StoreFor kind → Type 0
 NoneEnds kind [] store = Unit {0}
 NoneEnds kind (sent ∷ rest) store =
-    ((outcome kind sent.call sent.tape store sent.output).answer ≢ Refused TapeEnded) × NoneEnds kind rest (store_after kind sent store)
+    ((outcome kind sent.call sent.tape store sent.output).answer ≢ Err TapeEnded) × NoneEnds kind rest (store_after kind sent store)
 
 -- The faces that the words of the tapes decide, in order.
 unfoldable pub faces_sent : (kind : Kind) → List (SentTo kind) → StoreFor kind → List ℕ

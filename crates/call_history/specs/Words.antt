@@ -1,5 +1,5 @@
 -- Whatever words the tapes hold, if no call returns 7, the calls leave the store at the end of the course whose faces those words decide.
-use Rattle.std.specs.Prelude.{◌≡◌, ◌≢◌, ◌↔◌, ℕ}
+use Rattle.std.specs.Prelude.{Err, ◌≡◌, ◌≢◌, ◌↔◌, ℕ}
 use Rattle.std.proofs.Math.Path.{refl}
 use mathlib.Core.List.{List, [], ◌∷◌}
 use Rattle.draw_shares.specs.Program.{Program}
@@ -8,7 +8,6 @@ use Rattle.draw_shares.proofs.TapeLaws.{run_done, run_follows}
 use Rattle.draw_shares.specs.Course.{Follows}
 use Rattle.draw_shares.specs.CourseLaws.{follows_bind, follows_unique}
 use Rattle.call_outcomes.specs.declared.Cause.TheVariants.{TapeEnded}
-use Rattle.call_outcomes.specs.declared.Answer.TheVariants.{Refused}
 use Rattle.call_outcomes.specs.Kind.{Kind, CallFor, StoreFor}
 use Rattle.call_outcomes.specs.Causes.{Decision, refuse, accept, decision}
 use Rattle.call_outcomes.specs.Outcome.{refused, finished, effect, outcome_by, outcome, call_program_by, call_program}
@@ -17,24 +16,24 @@ use Rattle.call_history.specs.History.{run_calls, history, SentTo, clearing, sto
 module _ (kind : Kind) where
   -- One call: its program run on its tape ends with the store of its outcome, unless it returns 7.
   pub call_ends : (call : CallFor kind) (tape : List ℕ) (store : StoreFor kind) (output : List ℕ)
-      → (outcome kind call tape store output).answer ≢ Refused TapeEnded
+      → (outcome kind call tape store output).answer ≢ Err TapeEnded
       → (next : ℕ) × (run_at (call_program kind call store) tape 0 ≡ ran (outcome kind call tape store output).store next)
   unfolding outcome call_program finished refused call_program_by outcome_by
   call_ends call tape store output = go (decision kind call store)
     where
       ran_ends : (p : Program (StoreFor kind)) (list : List ℕ) (r : Ran (StoreFor kind)) → run_at p tape 0 ≡ r
-          → (finished kind call list store output r).answer ≢ Refused TapeEnded
+          → (finished kind call list store output r).answer ≢ Err TapeEnded
           → (next : ℕ) × (run_at p tape 0 ≡ ran (finished kind call list store output r).store next)
       ran_ends p list (ran store' words) e ne = (words, e)
       ran_ends p list ended e ne = absurd (ne refl)
 
-      go : (d : Decision) → (outcome_by kind call tape store output d).answer ≢ Refused TapeEnded
+      go : (d : Decision) → (outcome_by kind call tape store output d).answer ≢ Err TapeEnded
           → (next : ℕ) × (run_at (call_program_by kind call store d) tape 0 ≡ ran (outcome_by kind call tape store output d).store next)
       go (refuse cause) ne = (0, run_done store tape 0)
       go (accept before) ne = ran_ends (effect kind call before store) before.list (run_at (effect kind call before store) tape 0) refl ne
 
   pub call_follows : (call : CallFor kind) (tape : List ℕ) (store : StoreFor kind) (output : List ℕ)
-      → (outcome kind call tape store output).answer ≢ Refused TapeEnded
+      → (outcome kind call tape store output).answer ≢ Err TapeEnded
       → Follows (call_program kind call store) (faces_on (call_program kind call store) tape 0) (outcome kind call tape store output).store
   call_follows call tape store output ne =
       let ends = call_ends call tape store output ne in

@@ -1,7 +1,7 @@
 -- There is at most one sheet with given slots and size parameter, and mending finds it.
 use Rattle.std.proofs.Math.Path.{◌≡◌, refl, ap}
 use Rattle.std.proofs.Common.{sym, ◌∙◌, eq-eqb, eqb-true}
-use Rattle.std.specs.Prelude.{Bool, ◌↔◌, ℕ, length, replicate}
+use Rattle.std.specs.Prelude.{Ok, Err, Bool, ◌↔◌, ℕ, length, replicate}
 use Rattle.std.proofs.Math.Bool.{true, false}
 use mathlib.Core.List.{List, [], ◌∷◌}
 use native.Mathlib.Omega.{arith}
@@ -18,7 +18,7 @@ use Rattle.store_layout.specs.EmptyLaws.{empty_shape_lem, one_empty, empty_slots
 use Rattle.store_layout.proofs.SheetLaws.{size_lay_out}
 use Rattle.store_sums.proofs.TreeInLaws.{contents_laid}
 use Rattle.call_outcomes.specs.declared.Cause.TheVariants.{Lengths, NotMendable}
-use Rattle.call_outcomes.specs.declared.Answer.TheVariants.{Mended, Refused}
+use Rattle.call_outcomes.specs.declared.Answer.TheVariants.{Mended}
 use Rattle.call_outcomes.specs.Kind.{Found, holds, wrong, View, LawfulView, empty, SheetOf}
 use Rattle.call_outcomes.specs.Outcome.{refused}
 use Rattle.call_mend.specs.Mending.{size_of, SameKept, same_kept, HasStore, is_held, mended_by, Mendable, contents_of, restored, is_restored, mended}
@@ -87,7 +87,7 @@ module _ {cap : Capacity} (roomy : Roomy cap) (view : View) (has : HasStore cap 
     module _ (right : view.right_lengths store ≡ true) where
       -- The sheet is put in, and the number of its entries returned.
       pub mended_made : (m : Mendable view has store)
-          → mended view has store ≡ record { answer = Mended (length m.list); store = view.lay m.list m.shape; output = [] }
+          → mended view has store ≡ record { answer = Ok (Mended (length m.list)); store = view.lay m.list m.shape; output = [] }
       unfolding mended mended_by
       mended_made m = rw (right, found_mendable m, restored_is store m, contents_are store m)
 
@@ -97,12 +97,12 @@ module _ {cap : Capacity} (roomy : Roomy cap) (view : View) (has : HasStore cap 
       mended_none none = rw (right, not_true_false (is_restored view has store) (λ found. none (mendable_found found)))
 
       -- So cause 18 exactly when there is none.
-      pub mended_refused : ((mended view has store).answer ≡ Refused NotMendable) ↔ (Mendable view has store → ⊥)
+      pub mended_refused : ((mended view has store).answer ≡ Err NotMendable) ↔ (Mendable view has store → ⊥)
       unfolding refused
       mended_refused = (λ refusal m. let made = mended_made m in let z : ◌≡◌ {A = ℕ} 0 1 = cc in omega arith, λ none. rw (mended_none none))
 
     -- What mending leaves is a sheet of as many entries as it returned.
-    pub mended_sheet : (n : ℕ) → (mended view has store).answer ≡ Mended n
+    pub mended_sheet : (n : ℕ) → (mended view has store).answer ≡ Ok (Mended n)
         → (list : List ℕ) × SheetOf view list (mended view has store).store × (length list ≡ n)
     unfolding mended mended_by refused
     mended_sheet n made = by_lengths (view.right_lengths store) refl
@@ -114,13 +114,13 @@ module _ {cap : Capacity} (roomy : Roomy cap) (view : View) (has : HasStore cap 
             let is = mended_made right m in
             (m.list, rw is record { shape = m.shape; is_list = m.is_list; is_shape = m.is_shape; laid = refl }, cc)
         by_found false found right =
-            let no : (mended view has store).answer ≡ Refused NotMendable = rw (right, found) in
+            let no : (mended view has store).answer ≡ Err NotMendable = rw (right, found) in
             let z : ◌≡◌ {A = ℕ} 0 1 = cc in absurd (omega arith)
 
         by_lengths : (b : Bool) → view.right_lengths store ≡ b → (list : List ℕ) × SheetOf view list (mended view has store).store × (length list ≡ n)
         by_lengths true right = by_found (is_restored view has store) refl right
         by_lengths false wrong-lengths =
-            let no : (mended view has store).answer ≡ Refused Lengths = rw wrong-lengths in
+            let no : (mended view has store).answer ≡ Err Lengths = rw wrong-lengths in
             let z : ◌≡◌ {A = ℕ} 0 1 = cc in absurd (omega arith)
 
     -- A store of the size parameter 0 is mendable exactly when every slot is 0.
@@ -151,7 +151,7 @@ module _ {cap : Capacity} (roomy : Roomy cap) (view : View) (has : HasStore cap 
         }
 
     -- A sheet comes through unaltered.
-    pub sheet_unaltered : (list : List ℕ) → SheetOf view list store → mended view has store ≡ record { answer = Mended (length list); store = store; output = [] }
+    pub sheet_unaltered : (list : List ℕ) → SheetOf view list store → mended view has store ≡ record { answer = Ok (Mended (length list)); store = store; output = [] }
     sheet_unaltered list w =
         let right : view.right_lengths store ≡ true = rw w.laid (lawful.lengths list w.shape w.is_list w.is_shape) in
         let m : Mendable view has store = record {

@@ -1,7 +1,7 @@
 -- Mending (document 02, F-13): of a store with the right lengths, the sheet that has its slots and its size parameter, if there is one. Somebody else
 -- wrote the rest of the store, so mending is no call of a history: a history's store is written by its calls alone. What it leaves is a sheet, and
 -- everything that holds of sheets holds of it again. Definitions only.
-use Rattle.std.specs.Prelude.{Bool, true, false, ◌&&◌, List, [], ◌≡◌, ℕ, eqb, length, get_or}
+use Rattle.std.specs.Prelude.{Ok, Bool, true, false, ◌&&◌, List, [], ◌≡◌, ℕ, eqb, length, get_or}
 use Rattle.base.specs.Lists.{equal_lists}
 use Rattle.tree_rules.specs.Tree.{Shape, IsShape}
 use Rattle.store_layout.specs.declared.Capacity.{Capacity}
@@ -45,7 +45,7 @@ is_held (wrong cause) = false
 unfoldable pub mended_by : {S : Type 0} → Bool → Bool → ℕ → S → S → Outcome S
 mended_by false found n new old = refused Lengths old []
 mended_by true false n new old = refused NotMendable old []
-mended_by true true n new old = record { answer = Mended n; store = new; output = [] }
+mended_by true true n new old = record { answer = Ok (Mended n); store = new; output = [] }
 
 module _ {cap : Capacity} (view : View) (has : HasStore cap view) where
   -- Some sheet has the slots and the size parameter of the store.

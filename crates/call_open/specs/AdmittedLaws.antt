@@ -1,14 +1,13 @@
 -- What is left of a look at a store decides the call: refused by its cause, or run on the contents of the sheet.
 use Rattle.std.proofs.Math.Path.{◌≡◌, refl, sym, ap}
 use Rattle.std.proofs.Common.{◌∙◌, subst, arith}
-use Rattle.std.specs.Prelude.{List, ℕ, length}
+use Rattle.std.specs.Prelude.{Result, Ok, Err, List, ℕ, length}
 use Rattle.std.proofs.Math.Option.{Option, some, none}
 use Rattle.store_layout.specs.declared.Capacity.{Capacity}
 use Rattle.store_layout.specs.Layout.{Store}
 use Rattle.store_layout.specs.Decode.{Contents, decode, numbered}
 use Rattle.store_tallies.specs.Tallies.{lay_tallies}
 use Rattle.call_outcomes.specs.declared.Cause.{Cause}
-use Rattle.call_outcomes.specs.declared.Answer.TheVariants.{Refused}
 use Rattle.call_outcomes.specs.Kind.{View, change, ask, Kind, CallFor, StoreFor}
 use Rattle.call_outcomes.specs.Causes.{Decision, refuse, accept, store_decision, looked_at, argument_cause, by_arguments, decision}
 use Rattle.call_outcomes.specs.Outcome.{refused, outcome}
@@ -20,7 +19,6 @@ use Rattle.call_outcomes.proofs.UntalliedLaws.{found_decode}
 use Rattle.call_outcomes.proofs.SliceLaws.{SliceHolds, slice_holds}
 use Rattle.call_outcomes.specs.Plain.{tally_slice, plain_view, PlainStore}
 use Rattle.call_open.specs.declared.Opened.{Opened}
-use Rattle.call_open.specs.declared.Opened.TheVariants as opened
 use Rattle.call_open.specs.Opening.{opened_as, Opening, plain_numbers, OpenedStore, admitted_by, admitted, Admitted, OpenedSheet}
 
 -- ---- the causes of the arguments
@@ -31,14 +29,14 @@ opened_admitted : (causes : ℕ → Option Cause) (by_list : List ℕ → Option
 unfolding admitted admitted_by opened_as by_arguments
 opened_admitted causes by_list same (refuse cause) = refl
 opened_admitted causes by_list same (accept c) =
-    subst (λ (o : Option Cause). admitted_by (causes (length c.list)) (length c.list) c.shape.size ≡ opened_as (elim o [ some cause ↦ refuse cause | none ↦ accept c ]))
+    subst (λ (o : Option Cause). admitted_by (causes (length c.list)) (record { n = length c.list; m = c.shape.size }) ≡ opened_as (elim o [ some cause ↦ refuse cause | none ↦ accept c ]))
     (sym (same c.list)) (go (causes (length c.list)))
   where
-    go : (o : Option Cause) → admitted_by o (length c.list) c.shape.size ≡ opened_as (elim o [ some cause ↦ refuse cause | none ↦ accept c ])
+    go : (o : Option Cause) → admitted_by o (record { n = length c.list; m = c.shape.size }) ≡ opened_as (elim o [ some cause ↦ refuse cause | none ↦ accept c ])
     go (some cause) = refl
     go none = refl
 
-module _ (kind : Kind) (store : StoreFor kind) {answer after : Opened} (found : answer ≡ opened_as (store_decision kind.view store)) (causes : ℕ → Option Cause) where
+module _ (kind : Kind) (store : StoreFor kind) {answer after : Result Opened Cause} (found : answer ≡ opened_as (store_decision kind.view store)) (causes : ℕ → Option Cause) where
   pub change_opened : (c : kind.calls.ChangeCall) → ((list : List ℕ) → kind.calls.change_cause c list ≡ causes (length list))
       → after ≡ admitted causes answer → after ≡ opened_as (decision kind (change c) store)
   unfolding decision looked_at argument_cause
@@ -52,12 +50,12 @@ module _ (kind : Kind) (store : StoreFor kind) {answer after : Opened} (found : 
 -- ---- a sheet that was found
 
 -- It has these numbers.
-pub opened_store : (view : View) (numbers : view.Store → List ℕ) (store : view.Store) {found : Opened} {work : List ℕ} → Opening view numbers store found work
-    → (n m : ℕ) → found ≡ opened.Sheet n m → OpenedStore view numbers store n m work
+pub opened_store : (view : View) (numbers : view.Store → List ℕ) (store : view.Store) {found : Result Opened Cause} {work : List ℕ} → Opening view numbers store found work
+    → (sheet : Opened) → found ≡ Ok sheet → OpenedStore view numbers store sheet.n sheet.m work
 unfolding opened_as
-opened_store view numbers store {work = work} w n m e = go (store_decision view store) refl (sym w.found ∙ e)
+opened_store view numbers store {work = work} w sheet e = go (store_decision view store) refl (sym w.found ∙ e)
   where
-    go : (d : Decision) → store_decision view store ≡ d → opened_as d ≡ opened.Sheet n m → OpenedStore view numbers store n m work
+    go : (d : Decision) → store_decision view store ≡ d → opened_as d ≡ Ok sheet → OpenedStore view numbers store sheet.n sheet.m work
     go (refuse cause) looked h = let z : ◌≡◌ {A = ℕ} 0 1 = cc in absurd (omega arith)
     go (accept c) looked h = record { contents = c; decided = looked; count = cc; size = cc; copied = w.copied e }
 
@@ -68,10 +66,10 @@ module _ (cap : Capacity) (store : Store) where
   pub plain_decoded : (c : Contents) → store_decision (untallied_view cap) store ≡ accept c → decode cap store ≡ some c
   plain_decoded c h = found_decode cap store c (store_accepted (untallied_view cap) store c h).1
 
-  pub opened_sheet : {found : Opened} {work : List ℕ} → Opening (untallied_view cap) numbered store found work → (n m : ℕ) → found ≡ opened.Sheet n m
-      → OpenedSheet cap store n m work
-  opened_sheet w n m e =
-      let o = opened_store (untallied_view cap) numbered store w n m e in
+  pub opened_sheet : {found : Result Opened Cause} {work : List ℕ} → Opening (untallied_view cap) numbered store found work → (sheet : Opened) → found ≡ Ok sheet
+      → OpenedSheet cap store sheet.n sheet.m work
+  opened_sheet w sheet e =
+      let o = opened_store (untallied_view cap) numbered store w sheet e in
       record {
         contents = o.contents;
         decided = o.decided;
@@ -102,42 +100,42 @@ module _ {cap : Capacity} {store : PlainStore} {n m : ℕ} {work : List ℕ} (w 
   plain_tallies = held.laid
 
 -- What is left is what was found.
-pub found_sheet : (causes : ℕ → Option Cause) (o : Opened) {n m : ℕ} → admitted causes o ≡ opened.Sheet n m → o ≡ opened.Sheet n m
+pub found_sheet : (causes : ℕ → Option Cause) (o : Result Opened Cause) {sheet : Opened} → admitted causes o ≡ Ok sheet → o ≡ Ok sheet
 unfolding admitted admitted_by
-found_sheet causes (opened.Refused cause) h = h
-found_sheet causes (opened.Sheet n' m') {n} {m} h = go (causes n') h
+found_sheet causes (Err cause) h = h
+found_sheet causes (Ok found) {sheet} h = go (causes found.n) h
   where
-    go : (o : Option Cause) → admitted_by o n' m' ≡ opened.Sheet n m → opened.Sheet n' m' ≡ opened.Sheet n m
+    go : (o : Option Cause) → admitted_by o found ≡ Ok sheet → ◌≡◌ {A = Result Opened Cause} (Ok found) (Ok sheet)
     go (some cause) e = let z : ◌≡◌ {A = ℕ} 0 1 = cc in absurd (omega arith)
     go none e = e
 
-pub found_free : (causes : ℕ → Option Cause) (o : Opened) {n m : ℕ} → admitted causes o ≡ opened.Sheet n m → causes n ≡ none
+pub found_free : (causes : ℕ → Option Cause) (o : Result Opened Cause) {sheet : Opened} → admitted causes o ≡ Ok sheet → causes sheet.n ≡ none
 unfolding admitted admitted_by
-found_free causes (opened.Refused cause) h = let z : ◌≡◌ {A = ℕ} 0 1 = cc in absurd (omega arith)
-found_free causes (opened.Sheet n' m') {n} {m} h = go (causes n') refl h
+found_free causes (Err cause) h = let z : ◌≡◌ {A = ℕ} 0 1 = cc in absurd (omega arith)
+found_free causes (Ok found) {sheet} h = go (causes found.n) refl h
   where
-    go : (o : Option Cause) → causes n' ≡ o → admitted_by o n' m' ≡ opened.Sheet n m → causes n ≡ none
+    go : (o : Option Cause) → causes found.n ≡ o → admitted_by o found ≡ Ok sheet → causes sheet.n ≡ none
     go (some cause) is e = let z : ◌≡◌ {A = ℕ} 0 1 = cc in absurd (omega arith)
-    go none is e = let same : n' ≡ n = cc in rw same at is
+    go none is e = let same : found ≡ sheet = cc in rw same at is
 
 -- ---- the call goes on, or is refused
 
-module _ (kind : Kind) (call : CallFor kind) (store : StoreFor kind) {after : Opened} (is : after ≡ opened_as (decision kind call store)) where
-  pub call_admitted : {n m : ℕ} → after ≡ opened.Sheet n m → Admitted kind call store n m
+module _ (kind : Kind) (call : CallFor kind) (store : StoreFor kind) {after : Result Opened Cause} (is : after ≡ opened_as (decision kind call store)) where
+  pub call_admitted : {sheet : Opened} → after ≡ Ok sheet → Admitted kind call store sheet.n sheet.m
   unfolding opened_as
-  call_admitted {n} {m} e = go (decision kind call store) refl (sym is ∙ e)
+  call_admitted {sheet} e = go (decision kind call store) refl (sym is ∙ e)
     where
-      go : (d : Decision) → decision kind call store ≡ d → opened_as d ≡ opened.Sheet n m → Admitted kind call store n m
+      go : (d : Decision) → decision kind call store ≡ d → opened_as d ≡ Ok sheet → Admitted kind call store sheet.n sheet.m
       go (refuse cause) found h = let z : ◌≡◌ {A = ℕ} 0 1 = cc in absurd (omega arith)
       go (accept c) found h = record { contents = c; decided = found; count = cc; size = cc }
 
-  pub call_refused : (tape output : List ℕ) {cause : Cause} → after ≡ opened.Refused cause
-      → record { answer = Refused cause; store = store; output = output } ≡ outcome kind call tape store output
+  pub call_refused : (tape output : List ℕ) {cause : Cause} → after ≡ Err cause
+      → record { answer = Err cause; store = store; output = output } ≡ outcome kind call tape store output
   unfolding opened_as refused
   call_refused tape output {cause} e = go (decision kind call store) refl (sym is ∙ e)
     where
-      go : (d : Decision) → decision kind call store ≡ d → opened_as d ≡ opened.Refused cause
-          → record { answer = Refused cause; store = store; output = output } ≡ outcome kind call tape store output
+      go : (d : Decision) → decision kind call store ≡ d → opened_as d ≡ Err cause
+          → record { answer = Err cause; store = store; output = output } ≡ outcome kind call tape store output
       go (refuse k) found h =
           let same : k ≡ cause = cc in
           sym (outcome_refused kind call store tape output cause (found ∙ ap refuse same))

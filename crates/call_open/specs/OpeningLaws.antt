@@ -1,7 +1,7 @@
 -- What the code's look at a store comes to, for any capacity.
 use Rattle.std.proofs.Math.Path.{◌≡◌, refl}
 use Rattle.std.proofs.Common.{sym, ◌∙◌, arith, ne_eqb, pow_pos}
-use Rattle.std.specs.Prelude.{Bool, ◌&&◌, ◌≢◌, List, ℕ, ◌-◌, ◌*◌, ◌^◌, ◌≤◌, ◌<◌, eqb}
+use Rattle.std.specs.Prelude.{Ok, Err, Bool, ◌&&◌, ◌≢◌, List, ℕ, ◌-◌, ◌*◌, ◌^◌, ◌≤◌, ◌<◌, eqb}
 use Rattle.std.proofs.Math.Bool.{true, false}
 use Rattle.std.proofs.Math.Option.{some}
 use Rattle.std.proofs.Math.ListN.{length, get_or}
@@ -18,7 +18,6 @@ use Rattle.call_outcomes.specs.declared.Cause.TheVariants.{Lengths, NotASheet}
 use Rattle.call_outcomes.specs.Causes.{by_lengths, by_found, store_decision}
 use Rattle.call_outcomes.specs.Untallied.{right_lengths, found_by, untallied_view, store_of}
 use Rattle.call_outcomes.proofs.UntalliedLaws.{lengths_right}
-use Rattle.call_open.specs.declared.Opened.TheVariants as opened
 use Rattle.call_open.specs.Opening.{opened_as, Opening}
 
 module _ (cap : Capacity) (slots counts : List ℕ) where
@@ -39,7 +38,7 @@ module _ (cap : Capacity) (slots counts : List ℕ) where
       go true = refl
       go false = refl
 
-  pub open_wrong : right_lengths cap store ≡ false → (work : List ℕ) → Opening (untallied_view cap) numbered store (opened.Refused Lengths) work
+  pub open_wrong : right_lengths cap store ≡ false → (work : List ℕ) → Opening (untallied_view cap) numbered store (Err Lengths) work
   unfolding store_decision by_lengths opened_as
   open_wrong h work = record { found = rw h; copied = λ e. let z : ◌≡◌ {A = ℕ} 0 1 = cc in absurd (omega arith) }
 
@@ -49,7 +48,7 @@ module _ (cap : Capacity) (slots counts : List ℕ) where
 
     -- ---- no sheet
 
-    open_none : sheet_test cap store ≡ false → (work : List ℕ) → Opening (untallied_view cap) numbered store (opened.Refused NotASheet) work
+    open_none : sheet_test cap store ≡ false → (work : List ℕ) → Opening (untallied_view cap) numbered store (Err NotASheet) work
     unfolding store_decision by_lengths by_found found_by opened_as
     open_none h work = record {
       found = rw (right, decode_false cap store h);
@@ -57,7 +56,7 @@ module _ (cap : Capacity) (slots counts : List ℕ) where
     }
 
     -- its size parameter is one that no sheet can have
-    pub open_large : {most : ℕ} → most ≡ 2 * cap.entries - 1 → most < get_or counts 0 0 → (work : List ℕ) → Opening (untallied_view cap) numbered store (opened.Refused NotASheet) work
+    pub open_large : {most : ℕ} → most ≡ 2 * cap.entries - 1 → most < get_or counts 0 0 → (work : List ℕ) → Opening (untallied_view cap) numbered store (Err NotASheet) work
     open_large is h work = open_none (size_refused cap store (rw is at h)) work
 
     module _ (ready : CapacityReady cap) where
@@ -85,10 +84,10 @@ module _ (cap : Capacity) (slots counts : List ℕ) where
             tested : sheet_test cap store ≡ test
             tested = sym (test_is ∙ rw back)
 
-            pub open_other : test ≡ false → Opening (untallied_view cap) numbered store (opened.Refused NotASheet) work
+            pub open_other : test ≡ false → Opening (untallied_view cap) numbered store (Err NotASheet) work
             open_other h = open_none (tested ∙ h) work
 
-            pub open_sheet : test ≡ true → Opening (untallied_view cap) numbered store (opened.Sheet (get_or work 1 0) (get_or counts 0 0)) work
+            pub open_sheet : test ≡ true → Opening (untallied_view cap) numbered store (Ok (record { n = get_or work 1 0; m = get_or counts 0 0 })) work
             unfolding store_decision by_lengths by_found found_by opened_as numbered
             open_sheet h =
                 let found : decode cap store ≡ some (record { list = list_of store; shape = shape_of store }) = decode_true cap store (tested ∙ h) in

@@ -13,77 +13,84 @@ use store_layout::Capacity;
 use tree_rules::Change;
 use tree_sizes::Size;
 
-// What a store is found to hold: a sheet of n entries with the size parameter m; or why the call is refused.
+// What a store is found to hold: a sheet of n entries with the size parameter m.
 #[derive(Clone, Copy)]
-pub enum Opened {
-    Sheet { n: usize, m: usize },
-    Refused(Cause),
+pub struct Opened {
+    pub n: usize,
+    pub m: usize,
 }
 
 // Looks at a store: the lengths are right and it is a sheet, or cause 1 or 2 decides. The counts of a sheet are copied to the work array, by
 // range number. A size parameter that no sheet of the capacity has is refused before the counts are read in its order.
-pub fn examine(cap: Capacity, slots: &[u64], counts: &[u32], work: &mut [u32]) -> Opened
+pub fn examine(
+    cap: Capacity,
+    slots: &[u64],
+    counts: &[u32],
+    work: &mut [u32],
+) -> Result<Opened, Cause>
     requires capacity { CapacityReady cap }
     requires room { length work.old ≡ cap.counts }
     ensures { Opening (untallied_view cap) numbered (store_of slots.now counts.now) result work.new }
 {
     if slots.len() != cap.slots {
-        return Opened::Refused(Cause::Lengths);
+        return Err(Cause::Lengths);
     }
     if counts.len() != cap.counts {
-        return Opened::Refused(Cause::Lengths);
+        return Err(Cause::Lengths);
     }
     let m = counts[0] as usize;
     if store_test::greatest_size(cap.entries) < m {
-        return Opened::Refused(Cause::NotASheet);
+        return Err(Cause::NotASheet);
     }
     let size = Size { m: m };
     store_counts::read_counts(size, counts, work);
     if !store_test::is_sheet(cap, slots, work) {
-        return Opened::Refused(Cause::NotASheet);
+        return Err(Cause::NotASheet);
     }
     let n = work[1] as usize;
-    Opened::Sheet { n: n, m: m }
+    Ok(Opened { n: n, m: m })
 }
 
 // Causes 3 to 5 of an insert, where there is room for so many entries.
-fn admit_insert(opened: Opened, entries: usize, rank: usize, entry: u64) -> Opened
+fn admit_insert(
+    opened: Result<Opened, Cause>,
+    entries: usize,
+    rank: usize,
+    entry: u64,
+) -> Result<Opened, Cause>
     ensures { result ≡ admitted (change_cause entries (insert_at rank entry)) opened }
 {
-    match opened {
-        Opened::Sheet { n, m } => {
-            if entry == 0 {
-                return Opened::Refused(Cause::EntryZero);
-            }
-            if n < rank {
-                return Opened::Refused(Cause::Rank);
-            }
-            if entries <= n {
-                return Opened::Refused(Cause::Full);
-            }
-            Opened::Sheet { n: n, m: m }
-        }
-        Opened::Refused(cause) => Opened::Refused(cause),
+    let sheet = opened?;
+    if entry == 0 {
+        return Err(Cause::EntryZero);
     }
+    if sheet.n < rank {
+        return Err(Cause::Rank);
+    }
+    if entries <= sheet.n {
+        return Err(Cause::Full);
+    }
+    Ok(sheet)
 }
 
 // Cause 4 of a place, and of a delete: the entry of the rank is there.
-pub fn admit_rank(opened: Opened, rank: usize) -> Opened
+pub fn admit_rank(opened: Result<Opened, Cause>, rank: usize) -> Result<Opened, Cause>
     ensures { result ≡ admitted (question_cause (place_of rank)) opened }
 {
-    match opened {
-        Opened::Sheet { n, m } => {
-            if n <= rank {
-                return Opened::Refused(Cause::Rank);
-            }
-            Opened::Sheet { n: n, m: m }
-        }
-        Opened::Refused(cause) => Opened::Refused(cause),
+    let sheet = opened?;
+    if sheet.n <= rank {
+        return Err(Cause::Rank);
     }
+    Ok(sheet)
 }
 
 // Causes 3 to 5 of the call that makes the change, where there is room for so many entries.
-pub fn admit_change(opened: Opened, entries: usize, change: Change, entry: u64) -> Opened
+pub fn admit_change(
+    opened: Result<Opened, Cause>,
+    entries: usize,
+    change: Change,
+    entry: u64,
+) -> Result<Opened, Cause>
     ensures { result ≡ admitted (change_cause entries (plain_change change entry)) opened }
 {
     match change {
@@ -93,49 +100,50 @@ pub fn admit_change(opened: Opened, entries: usize, change: Change, entry: u64) 
 }
 
 // Causes 4 and 6 of a read, with room for so many entries in the output.
-pub fn admit_read(opened: Opened, first: usize, last: usize, room: usize) -> Opened
+pub fn admit_read(
+    opened: Result<Opened, Cause>,
+    first: usize,
+    last: usize,
+    room: usize,
+) -> Result<Opened, Cause>
     ensures { result ≡ admitted (question_cause (read_ranks first last room)) opened }
 {
-    match opened {
-        Opened::Sheet { n, m } => {
-            if n <= first {
-                return Opened::Refused(Cause::Rank);
-            }
-            if n <= last {
-                return Opened::Refused(Cause::Rank);
-            }
-            if last < first {
-                return Opened::Refused(Cause::Rank);
-            }
-            if room < last - first + 1 {
-                return Opened::Refused(Cause::OutputShort);
-            }
-            Opened::Sheet { n: n, m: m }
-        }
-        Opened::Refused(cause) => Opened::Refused(cause),
+    let sheet = opened?;
+    if sheet.n <= first {
+        return Err(Cause::Rank);
     }
+    if sheet.n <= last {
+        return Err(Cause::Rank);
+    }
+    if last < first {
+        return Err(Cause::Rank);
+    }
+    if room < last - first + 1 {
+        return Err(Cause::OutputShort);
+    }
+    Ok(sheet)
 }
 
 // Causes 16, 4 and 6 of a board of ranks, with room for so many entries in the output.
-pub fn admit_board(opened: Opened, ranks: &[u64], room: usize) -> Opened
+pub fn admit_board(
+    opened: Result<Opened, Cause>,
+    ranks: &[u64],
+    room: usize,
+) -> Result<Opened, Cause>
     ensures { result ≡ admitted (question_cause (board_of ranks.now room)) opened }
 {
-    match opened {
-        Opened::Sheet { n, m } => {
-            if 64 < ranks.len() {
-                return Opened::Refused(Cause::BoardRanks);
-            }
-            if store_board::ranks_fall(ranks) {
-                return Opened::Refused(Cause::BoardRanks);
-            }
-            if store_board::some_rank_from(ranks, n) {
-                return Opened::Refused(Cause::Rank);
-            }
-            if room < ranks.len() {
-                return Opened::Refused(Cause::OutputShort);
-            }
-            Opened::Sheet { n: n, m: m }
-        }
-        Opened::Refused(cause) => Opened::Refused(cause),
+    let sheet = opened?;
+    if 64 < ranks.len() {
+        return Err(Cause::BoardRanks);
     }
+    if store_board::ranks_fall(ranks) {
+        return Err(Cause::BoardRanks);
+    }
+    if store_board::some_rank_from(ranks, sheet.n) {
+        return Err(Cause::Rank);
+    }
+    if room < ranks.len() {
+        return Err(Cause::OutputShort);
+    }
+    Ok(sheet)
 }

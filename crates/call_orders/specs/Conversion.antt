@@ -1,5 +1,5 @@
 -- The conversions between the order of the range numbers and the tree order (document 02, F-5). Definitions only.
-use Rattle.std.specs.Prelude.{not, List, ◌≡◌, ℕ, ◌-◌, ◌*◌, ◌≤◌, eqb, ltb, length, get_or}
+use Rattle.std.specs.Prelude.{Result, Ok, Err, not, List, ◌≡◌, ℕ, ◌-◌, ◌*◌, ◌≤◌, eqb, ltb, length, get_or}
 use Rattle.std.proofs.Math.Option.{Option, some, none}
 use Rattle.tree_sizes.specs.Sizes.{height}
 use Rattle.store_order.specs.CountOrder.{count_order, number_order}
@@ -8,7 +8,7 @@ use Rattle.store_layout.specs.Layout.{Store}
 use Rattle.call_outcomes.specs.declared.Cause.{Cause}
 use Rattle.call_outcomes.specs.declared.Cause.TheVariants.{Lengths, NotASheet}
 use Rattle.call_outcomes.specs.declared.Answer.{Answer}
-use Rattle.call_outcomes.specs.declared.Answer.TheVariants.{Converted, Refused}
+use Rattle.call_outcomes.specs.declared.Answer.TheVariants.{Converted}
 use Rattle.call_outcomes.specs.Causes.{first_of}
 
 -- The counts of the ranges of M's tree, where number 0 is M: from the range numbers to the tree order, and back.
@@ -27,15 +27,15 @@ pub record Convertible (cap : Capacity) (counts : List ℕ) : Type 0 where
   pub lengths : length counts ≡ cap.counts
   pub size : get_or counts 0 0 ≤ 2 * cap.entries - 1
 
--- What a conversion comes to: the answer, and the counts after it.
+-- What a conversion comes to: the answer, or the cause that refuses it; and the counts after it.
 pub record Conversion : Type 0 where
-  pub answer : Answer
+  pub answer : Result Answer Cause
   pub counts : List ℕ
 
 -- A refused one changes nothing.
 unfoldable pub conversion_by : (List ℕ → List ℕ) → List ℕ → Option Cause → Conversion
-conversion_by convert counts (some cause) = record { answer = Refused cause; counts = counts }
-conversion_by convert counts none = record { answer = Converted (get_or counts 0 0); counts = convert counts }
+conversion_by convert counts (some cause) = record { answer = Err cause; counts = counts }
+conversion_by convert counts none = record { answer = Ok (Converted (get_or counts 0 0)); counts = convert counts }
 
 unfoldable pub conversion : Capacity → (List ℕ → List ℕ) → List ℕ → Conversion
 conversion cap convert counts = conversion_by convert counts (conversion_cause cap counts)

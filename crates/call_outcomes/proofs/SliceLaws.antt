@@ -1,7 +1,7 @@
 -- A view with a further slice is lawful where the view is; what is decided of its stores, and what a change of its sheets comes to.
 use Rattle.std.proofs.Math.Path.{◌≡◌, refl, ap}
 use Rattle.std.proofs.Common.{sym, ◌∙◌, ap₂, arith}
-use Rattle.std.specs.Prelude.{Bool, ◌≢◌, ℕ, length}
+use Rattle.std.specs.Prelude.{Ok, Err, Bool, ◌≢◌, ℕ, length}
 use Rattle.std.proofs.Math.Bool.{true, false}
 use mathlib.Core.List.{List, []}
 use borrow.Author.Tests.{eq-eqb, eqb-true, ne_eqb}
@@ -14,7 +14,7 @@ use Rattle.tree_rules.specs.Rules.{update}
 use Rattle.store_layout.specs.Decode.{Contents}
 use Rattle.call_outcomes.specs.declared.Cause.{Cause}
 use Rattle.call_outcomes.specs.declared.Cause.TheVariants.{Lengths, TapeEnded}
-use Rattle.call_outcomes.specs.declared.Answer.TheVariants.{Changed, Refused}
+use Rattle.call_outcomes.specs.declared.Answer.TheVariants.{Changed}
 use Rattle.call_outcomes.specs.Kind.{Found, holds, wrong, View, LawfulView, Edit, applied, Calls, change, Kind, Lawful}
 use Rattle.call_outcomes.specs.Causes.{refuse, accept, by_lengths, by_found, store_decision, decision}
 use Rattle.call_outcomes.specs.Outcome.{Outcome, refused, outcome}
@@ -158,11 +158,11 @@ module _ (kind : Kind) (further : Slice) (calls : Calls) where
     pub record SliceChanged (n words : ℕ) (sheet : kind.view.Store) : Type 0 where
       pub made : ChangeMade kind c tape store.sheet before decided words sheet
       pub sliced_outcome : (slice : List ℕ) → slice ≡ further.lay (applied edit before.list) made.shape
-          → ◌≡◌ {A = Outcome (Sliced kind.view.Store)} (record { answer = Changed n words; store = record { sheet = sheet; slice = slice }; output = [] })
+          → ◌≡◌ {A = Outcome (Sliced kind.view.Store)} (record { answer = Ok (Changed n words); store = record { sheet = sheet; slice = slice }; output = [] })
           (outcome sliced (change c') tape store [])
 
     pub slice_changed : Lawful kind → (n words : ℕ) (sheet : kind.view.Store)
-        → ◌≡◌ {A = Outcome kind.view.Store} (record { answer = Changed n words; store = sheet; output = [] }) (outcome kind (change c) tape store.sheet [])
+        → ◌≡◌ {A = Outcome kind.view.Store} (record { answer = Ok (Changed n words); store = sheet; output = [] }) (outcome kind (change c) tape store.sheet [])
         → SliceChanged n words sheet
     slice_changed lawful n words sheet is = with_made (change_made kind c tape store.sheet before decided lawful n words sheet is)
       where
@@ -178,15 +178,15 @@ module _ (kind : Kind) (further : Slice) (calls : Calls) where
 
     -- A change whose tape ends keeps both.
     pub slice_ended : (sheet : kind.view.Store)
-        → ◌≡◌ {A = Outcome kind.view.Store} (record { answer = Refused TapeEnded; store = sheet; output = [] }) (outcome kind (change c) tape store.sheet [])
+        → ◌≡◌ {A = Outcome kind.view.Store} (record { answer = Err TapeEnded; store = sheet; output = [] }) (outcome kind (change c) tape store.sheet [])
         → ◌≡◌ {A = Outcome (Sliced kind.view.Store)}
-        (record { answer = Refused TapeEnded; store = record { sheet = sheet; slice = store.slice }; output = [] }) (outcome sliced (change c') tape store [])
+        (record { answer = Err TapeEnded; store = record { sheet = sheet; slice = store.slice }; output = [] }) (outcome sliced (change c') tape store [])
     unfolding refused
     slice_ended sheet is = by_run (run_at (update edit.change (length before.list) before.shape) tape 0) refl
       where
         by_run : (r : Ran Shape) → run_at (update edit.change (length before.list) before.shape) tape 0 ≡ r
             → ◌≡◌ {A = Outcome (Sliced kind.view.Store)}
-            (record { answer = Refused TapeEnded; store = record { sheet = sheet; slice = store.slice }; output = [] }) (outcome sliced (change c') tape store [])
+            (record { answer = Err TapeEnded; store = record { sheet = sheet; slice = store.slice }; output = [] }) (outcome sliced (change c') tape store [])
         by_run (ran s next) e =
             let o = ap (λ (x : Outcome kind.view.Store). x.answer) (is ∙ outcome_drawn kind c tape store.sheet before decided s next e) in
             let z : ◌≡◌ {A = ℕ} 0 1 = cc in absurd (omega arith)

@@ -1,5 +1,5 @@
 -- What an answer tells of a call: one that returns 0 met none of the causes, and a change reads no more words than the tape has.
-use Rattle.std.specs.Prelude.{◌≡◌, refl, List, ℕ, ◌≤◌, ◌<◌, ◌^◌, length}
+use Rattle.std.specs.Prelude.{Result, Ok, Err, ◌≡◌, refl, List, ℕ, ◌≤◌, ◌<◌, ◌^◌, length}
 use Rattle.std.proofs.Common.{arith}
 use Rattle.draw_shares.specs.Tape.{Ran, ran, ended, run_at}
 use Rattle.draw_shares.proofs.TapeLaws.{run_within}
@@ -30,17 +30,17 @@ cause_bounds cause.NoFrame = (omega arith, omega arith)
 cause_bounds cause.TapeFull = (omega arith, omega arith)
 
 -- What is returned has 0 for its number, or a cause's.
-pub number_fits : (a : Answer) → (returned a).number < 2 ^ 8
-number_fits answer.Cleared = omega arith
-number_fits (answer.Changed n words) = omega arith
-number_fits (answer.Entries count) = omega arith
-number_fits (answer.Placed place sum boats) = omega arith
-number_fits (answer.Checked n) = omega arith
-number_fits (answer.Present rank) = omega arith
-number_fits (answer.Absent rank) = omega arith
-number_fits (answer.Converted m) = omega arith
-number_fits (answer.Mended n) = omega arith
-number_fits (answer.Refused c) = (cause_bounds c).1
+pub number_fits : (a : Result Answer Cause) → (returned a).number < 2 ^ 8
+number_fits (Ok answer.Cleared) = omega arith
+number_fits (Ok (answer.Changed n words)) = omega arith
+number_fits (Ok (answer.Entries count)) = omega arith
+number_fits (Ok (answer.Placed place sum boats)) = omega arith
+number_fits (Ok (answer.Checked n)) = omega arith
+number_fits (Ok (answer.Present rank)) = omega arith
+number_fits (Ok (answer.Absent rank)) = omega arith
+number_fits (Ok (answer.Converted m)) = omega arith
+number_fits (Ok (answer.Mended n)) = omega arith
+number_fits (Err c) = (cause_bounds c).1
 
 -- A call that returns 0 was accepted.
 pub number_accepted : (kind : Kind) (call : CallFor kind) (tape : List ℕ) (store : StoreFor kind) (output : List ℕ)

@@ -3,7 +3,7 @@ use Rattle.std.proofs.Math.Path.{◌≡◌, refl, ap}
 use Rattle.std.proofs.Common.{sym, ◌∙◌, arith}
 use mathlib.Core.List.{List, []}
 use Rattle.std.proofs.Math.Option.{none}
-use Rattle.std.specs.Prelude.{ℕ, length}
+use Rattle.std.specs.Prelude.{Result, Ok, Err, ℕ, length}
 use Rattle.draw_shares.specs.Program.{done}
 use Rattle.draw_shares.specs.Tape.{Ran, ran, ended, run_at, after_run}
 use Rattle.draw_shares.proofs.TapeLaws.{run_bind, run_ends}
@@ -14,7 +14,9 @@ use Rattle.tree_rules.proofs.ShapeLaws.{update_ends}
 use Rattle.tree_rules.specs.ChangeListLaws.{length_changed}
 use Rattle.store_layout.specs.Decode.{Contents}
 use Rattle.call_outcomes.specs.declared.Cause.TheVariants.{TapeEnded}
-use Rattle.call_outcomes.specs.declared.Answer.TheVariants.{Changed, Refused}
+use Rattle.call_outcomes.specs.declared.Cause.{Cause}
+use Rattle.call_outcomes.specs.declared.Answer.{Answer}
+use Rattle.call_outcomes.specs.declared.Answer.TheVariants.{Changed}
 use Rattle.call_outcomes.specs.Kind.{View, Edit, applied, Calls, change, Kind, Lawful, StoreFor}
 use Rattle.call_outcomes.specs.Causes.{accept, store_decision, looked_at, argument_cause, decision}
 use Rattle.call_outcomes.specs.Outcome.{edited, effect, answer_of, entries_of, Outcome, refused, finished, outcome}
@@ -29,7 +31,7 @@ module _ (kind : Kind) (c : kind.calls.ChangeCall) (tape : List ℕ) (store : St
   pub outcome_drawn : (s : Shape) (words : ℕ) → run_at (update edit.change (length before.list) before.shape) tape 0 ≡ ran s words
       → outcome kind (change c) tape store []
       ≡ record {
-        answer = Changed (count_after edit.change (length before.list)) words;
+        answer = Ok (Changed (count_after edit.change (length before.list)) words);
         store = kind.view.lay (applied edit before.list) s;
         output = [];
       }
@@ -48,7 +50,7 @@ module _ (kind : Kind) (c : kind.calls.ChangeCall) (tape : List ℕ) (store : St
 
   -- So nothing is changed where that is the answer.
   pub change_kept : (after : StoreFor kind)
-      → ◌≡◌ {A = Outcome (StoreFor kind)} (record { answer = Refused TapeEnded; store = after; output = [] }) (outcome kind (change c) tape store [])
+      → ◌≡◌ {A = Outcome (StoreFor kind)} (record { answer = Err TapeEnded; store = after; output = [] }) (outcome kind (change c) tape store [])
       → after ≡ store
   unfolding refused
   change_kept after is = by_run (run_at (update edit.change (length before.list) before.shape) tape 0) refl
@@ -71,7 +73,7 @@ module _ (kind : Kind) (c : kind.calls.ChangeCall) (tape : List ℕ) (store : St
 
   module _ (lawful : Lawful kind) where
     pub change_made : (n words : ℕ) (after : StoreFor kind)
-        → ◌≡◌ {A = Outcome (StoreFor kind)} (record { answer = Changed n words; store = after; output = [] }) (outcome kind (change c) tape store [])
+        → ◌≡◌ {A = Outcome (StoreFor kind)} (record { answer = Ok (Changed n words); store = after; output = [] }) (outcome kind (change c) tape store [])
         → ChangeMade words after
     unfolding refused looked_at argument_cause applied
     change_made n words after is = by_run (run_at (update edit.change (length before.list) before.shape) tape 0) refl
@@ -101,7 +103,7 @@ module _ (kind : Kind) (c : kind.calls.ChangeCall) (tape : List ℕ) (store : St
               laid = ap (λ (x : Outcome (StoreFor kind)). x.store) o;
             }
         by_run ended e =
-            let answers : Changed n words ≡ Refused TapeEnded = ap (λ (x : Outcome (StoreFor kind)). x.answer) (is ∙ outcome_ended e) in
+            let answers : ◌≡◌ {A = Result Answer Cause} (Ok (Changed n words)) (Err TapeEnded) = ap (λ (x : Outcome (StoreFor kind)). x.answer) (is ∙ outcome_ended e) in
             let z : ◌≡◌ {A = ℕ} 0 1 = cc in absurd (omega arith)
 
 -- Of two kinds with one view, changes that edit the list in the same way come to the same.

@@ -1,6 +1,6 @@
 -- What is decided of a call, and what the call then comes to.
 use Rattle.std.proofs.Math.Path.{◌≡◌, refl, sym}
-use Rattle.std.specs.Prelude.{Bool, ℕ, length, drop}
+use Rattle.std.specs.Prelude.{Ok, Err, Bool, ℕ, length, drop}
 use Rattle.std.proofs.Math.Bool.{true, false}
 use mathlib.Core.List.{List, [], ◌++◌}
 use Rattle.std.proofs.Math.Option.{Option, some, none}
@@ -9,7 +9,7 @@ use Rattle.draw_shares.specs.Tape.{run_at}
 use Rattle.store_layout.specs.Decode.{Contents}
 use Rattle.call_outcomes.specs.declared.Cause.{Cause}
 use Rattle.call_outcomes.specs.declared.Cause.TheVariants.{Lengths}
-use Rattle.call_outcomes.specs.declared.Answer.TheVariants.{Cleared, Refused}
+use Rattle.call_outcomes.specs.declared.Answer.TheVariants.{Cleared}
 use Rattle.call_outcomes.specs.Kind.{Found, holds, wrong, View, empty, clear, ask, Kind, CallFor, StoreFor}
 use Rattle.call_outcomes.specs.Causes.{first_of, Decision, refuse, accept, by_lengths, by_found, store_decision, looked_at, argument_cause, by_arguments, decision}
 use Rattle.call_outcomes.specs.Outcome.{effect, answer_of, entries_of, refused, finished, outcome_by, outcome}
@@ -88,7 +88,7 @@ pub question_outcome : (kind : Kind) (q : kind.calls.Question) (tape : List ℕ)
     → decision kind (ask q) store ≡ accept before
     → outcome kind (ask q) tape store output
     ≡ record {
-      answer = kind.calls.reply q before.list;
+      answer = Ok (kind.calls.reply q before.list);
       store = store;
       output = kind.calls.written q before.list ++ drop (length (kind.calls.written q before.list)) output;
     }
@@ -110,12 +110,12 @@ question_keeps kind q tape store output = go (decision kind (ask q) store)
 module _ (kind : Kind) (store : StoreFor kind) (tape : List ℕ) where
   -- A store of the right lengths is made the empty sheet, whatever it holds.
   pub clear_outcome : kind.view.right_lengths store ≡ true
-      → record { answer = Cleared; store = kind.view.lay empty.list empty.shape; output = [] } ≡ outcome kind clear tape store []
+      → record { answer = Ok Cleared; store = kind.view.lay empty.list empty.shape; output = [] } ≡ outcome kind clear tape store []
   unfolding decision looked_at by_lengths by_arguments argument_cause finished effect run_at answer_of entries_of
   clear_outcome right = sym (outcome_accepted kind clear store tape [] empty (rw right))
 
   -- Any other is refused by cause 1.
   pub clear_refused : kind.view.right_lengths store ≡ false
-      → record { answer = Refused Lengths; store = store; output = [] } ≡ outcome kind clear tape store []
+      → record { answer = Err Lengths; store = store; output = [] } ≡ outcome kind clear tape store []
   unfolding refused decision looked_at by_lengths by_arguments
   clear_refused other = sym (outcome_refused kind clear store tape [] Lengths (rw other))

@@ -1,5 +1,5 @@
 -- What each call comes to, for all inputs: the causes first, then the rules. Definitions only.
-use Rattle.std.specs.Prelude.{List, [], ◌++◌, ℕ, length, drop}
+use Rattle.std.specs.Prelude.{Result, Ok, Err, List, [], ◌++◌, ℕ, length, drop}
 use Rattle.draw_shares.specs.Program.{Program, done, ◌>>=◌}
 use Rattle.draw_shares.specs.Tape.{Ran, ran, ended, run_at}
 use Rattle.tree_rules.specs.Compare.{count_after}
@@ -8,7 +8,7 @@ use Rattle.store_layout.specs.Decode.{Contents}
 use Rattle.call_outcomes.specs.declared.Cause.{Cause}
 use Rattle.call_outcomes.specs.declared.Cause.TheVariants.{TapeEnded}
 use Rattle.call_outcomes.specs.declared.Answer.{Answer}
-use Rattle.call_outcomes.specs.declared.Answer.TheVariants.{Cleared, Changed, Refused}
+use Rattle.call_outcomes.specs.declared.Answer.TheVariants.{Cleared, Changed}
 use Rattle.call_outcomes.specs.Kind.{View, empty, Edit, applied, clear, change, ask, Kind, CallFor, StoreFor}
 use Rattle.call_outcomes.specs.Causes.{Decision, refuse, accept, decision}
 
@@ -31,7 +31,7 @@ effect kind clear before store = done (kind.view.lay empty.list empty.shape)
 effect kind (change c) before store = edited kind.view (kind.calls.edit c before.list) before
 effect kind (ask q) before store = done store
 
--- The answer, by the list before and the number of words read: a change returns the new N and these.
+-- The answer of an accepted call, by the list before and the number of words read: a change returns the new N and these.
 unfoldable pub answer_of : (kind : Kind) → CallFor kind → List ℕ → ℕ → Answer
 answer_of kind clear list words = Cleared
 answer_of kind (change c) list words = Changed (count_after (kind.calls.edit c list).change (length list)) words
@@ -45,20 +45,20 @@ entries_of kind (ask q) list = kind.calls.written q list
 
 -- ---- what a call comes to
 
--- The answer, the store after the call, and the output after it.
+-- The answer, or the cause that refuses the call; the store after the call, and the output after it.
 pub record Outcome (S : Type 0) : Type 0 where
-  pub answer : Answer
+  pub answer : Result Answer Cause
   pub store : S
   pub output : List ℕ
 
 -- A refused call changes nothing.
 unfoldable pub refused : {S : Type 0} → Cause → S → List ℕ → Outcome S
-refused cause store output = record { answer = Refused cause; store = store; output = output }
+refused cause store output = record { answer = Err cause; store = store; output = output }
 
 -- By the run on the tape: cause 7 where the tape ended, otherwise accepted.
 unfoldable pub finished : (kind : Kind) → CallFor kind → List ℕ → StoreFor kind → List ℕ → Ran (StoreFor kind) → Outcome (StoreFor kind)
 finished kind call list store output (ran store' words) = record {
-  answer = answer_of kind call list words;
+  answer = Ok (answer_of kind call list words);
   store = store';
   output = entries_of kind call list ++ drop (length (entries_of kind call list)) output;
 }

@@ -1,10 +1,11 @@
 -- Plain sheets, for any capacity: slots, counts and tallies (documents 01 and 02, F-11), with the calls of document 01. Definitions only.
-use Rattle.std.specs.Prelude.{Bool, true, List, ◌≡◌, ℕ, length}
+use Rattle.std.specs.Prelude.{Result, Bool, true, List, ◌≡◌, ℕ, length}
 use Rattle.tree_rules.specs.Tree.{Shape}
 use Rattle.store_layout.specs.declared.Capacity.{Capacity}
 use Rattle.store_layout.specs.Layout.{Store}
 use Rattle.store_tallies.specs.Tallies.{lay_tallies}
 use Rattle.call_outcomes.specs.declared.Cause.TheVariants.{NotASheet}
+use Rattle.call_outcomes.specs.declared.Cause.{Cause}
 use Rattle.call_outcomes.specs.declared.Answer.{Answer}
 use Rattle.call_outcomes.specs.Kind.{View, Kind}
 use Rattle.call_outcomes.specs.Outcome.{Outcome}
@@ -50,5 +51,5 @@ abbrev pub plain_store_of : List ℕ → List ℕ → List ℕ → PlainStore
 plain_store_of slots counts tallies = record { sheet = store_of slots counts; slice = tallies }
 
 -- What a call leaves in the slices that it was lent.
-abbrev pub plain_outcome_of : Answer → List ℕ → List ℕ → List ℕ → List ℕ → Outcome PlainStore
+abbrev pub plain_outcome_of : Result Answer Cause → List ℕ → List ℕ → List ℕ → List ℕ → Outcome PlainStore
 plain_outcome_of answer slots counts tallies output = record { answer = answer; store = plain_store_of slots counts tallies; output = output }

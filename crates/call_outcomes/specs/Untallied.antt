@@ -1,5 +1,5 @@
 -- Sheets as slots and counts alone, without the tallies of document 02, F-11: what the rules lay out, for any capacity. Definitions only.
-use Rattle.std.specs.Prelude.{Bool, ◌&&◌, List, ◌≡◌, ℕ, ◌≤◌, ◌<◌, eqb, length}
+use Rattle.std.specs.Prelude.{Result, Bool, ◌&&◌, List, ◌≡◌, ℕ, ◌≤◌, ◌<◌, eqb, length}
 use Rattle.std.proofs.Math.Option.{Option, some, none}
 use Rattle.base.specs.Lists.{Every, equal_lists}
 use Rattle.tree_rules.specs.Tree.{Shape}
@@ -7,6 +7,7 @@ use Rattle.store_layout.specs.declared.Capacity.{Capacity}
 use Rattle.store_layout.specs.Layout.{Store, lay_out}
 use Rattle.store_layout.specs.Decode.{Contents, decode}
 use Rattle.call_outcomes.specs.declared.Cause.TheVariants.{NotASheet}
+use Rattle.call_outcomes.specs.declared.Cause.{Cause}
 use Rattle.call_outcomes.specs.declared.Answer.{Answer}
 use Rattle.call_outcomes.specs.Kind.{Found, holds, wrong, View, Kind}
 use Rattle.call_outcomes.specs.Outcome.{Outcome}
@@ -57,5 +58,5 @@ abbrev pub store_of : List ℕ → List ℕ → Store
 store_of slots counts = record { slots = slots; counts = counts }
 
 -- What a call leaves in them.
-abbrev pub outcome_of : Answer → List ℕ → List ℕ → List ℕ → Outcome Store
+abbrev pub outcome_of : Result Answer Cause → List ℕ → List ℕ → List ℕ → Outcome Store
 outcome_of answer slots counts output = record { answer = answer; store = store_of slots counts; output = output }

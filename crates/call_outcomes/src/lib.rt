@@ -22,7 +22,7 @@ pub enum Cause {
     TapeFull,
 }
 
-// What a call returns.
+// What an accepted call answers.
 #[derive(Clone, Copy)]
 pub enum Answer {
     Cleared,
@@ -53,15 +53,14 @@ pub enum Answer {
     Mended {
         n: usize,
     },
-    Refused(Cause),
 }
 
-impl Cause {
-    // The number of the cause.
-    pub fn number(self) -> usize
-        ensures { result ≡ returns.cause_number self }
-    {
-        match self {
+// The number of the cause.
+impl From<Cause> for usize {
+    ghost from_gives = { λ cause number. number ≡ returns.cause_number cause };
+
+    fn from(cause: Cause) -> usize {
+        match cause {
             Cause::Lengths => 1,
             Cause::NotMendable => 18,
             Cause::NotASheet => 2,
@@ -88,7 +87,7 @@ pub struct Returned {
     pub third: usize,
 }
 
-// What an accepted call returns with these values.
+// The number 0 with these values.
 fn accepted(first: usize, second: usize, third: usize) -> Returned
     ensures { result ≡ record { number = 0; first = first; second = second; third = third } }
 {
@@ -100,12 +99,12 @@ fn accepted(first: usize, second: usize, third: usize) -> Returned
     }
 }
 
-impl Answer {
-    // The number and the values that the answer returns.
-    pub fn returned(self) -> Returned
-        ensures { result ≡ returns.returned self }
-    {
-        match self {
+// What an accepted call returns.
+impl From<Answer> for Returned {
+    ghost from_gives = { λ answer back. back ≡ returns.accepted answer };
+
+    fn from(answer: Answer) -> Returned {
+        match answer {
             Answer::Cleared => accepted(0, 0, 0),
             Answer::Changed { n, words } => accepted(n, words, 0),
             Answer::Entries { count } => accepted(count, 0, 0),
@@ -115,15 +114,23 @@ impl Answer {
             Answer::Absent { rank } => accepted(0, rank, 0),
             Answer::Converted { m } => accepted(m, 0, 0),
             Answer::Mended { n } => accepted(n, 0, 0),
-            Answer::Refused(cause) => {
-                let number = cause.number();
-                Returned {
-                    number: number,
-                    first: 0,
-                    second: 0,
-                    third: 0,
-                }
-            }
+        }
+    }
+}
+
+// What a call returns: that, or the number of the cause and zeros.
+impl From<Result<Answer, Cause>> for Returned {
+    ghost from_gives = { λ given back. back ≡ returns.returned given };
+
+    fn from(given: Result<Answer, Cause>) -> Returned {
+        match given {
+            Ok(answer) => Returned::from(answer),
+            Err(cause) => Returned {
+                number: usize::from(cause),
+                first: 0,
+                second: 0,
+                third: 0,
+            },
         }
     }
 }

@@ -1,6 +1,6 @@
 -- A place on a plain sheet: the slot of the entry of the rank and the number of scoring boats before her, found by the counts and the tallies on the
 -- path down; and what is found there is the reply.
-use Rattle.std.specs.Prelude.{◌≡◌, List, [], ◌++◌, ℕ, ◌+◌, ◌-◌, ◌*◌, ◌^◌, ◌≤◌, ◌<◌, length, take, drop}
+use Rattle.std.specs.Prelude.{Result, Ok, ◌≡◌, List, [], ◌++◌, ℕ, ◌+◌, ◌-◌, ◌*◌, ◌^◌, ◌≤◌, ◌<◌, length, take, drop}
 use Rattle.std.proofs.Common.{sym, ◌∙◌, ap, length-append, length-drop}
 use native.Mathlib.Omega.{arith}
 use Rattle.std.proofs.Math.Seq.{take-append-add, take-append_seam}
@@ -22,8 +22,8 @@ use Rattle.store_ties.specs.Steps.{entries_before, InSlot}
 use Rattle.store_ties.specs.BeforeLaws.{parted}
 use Rattle.call_outcomes.specs.PlainCalls.{place_of, question_cause, placed, reply_to, written_for}
 use Rattle.call_outcomes.specs.Untallied.{store_of}
+use Rattle.call_outcomes.specs.declared.Cause.{Cause}
 use Rattle.call_open.specs.declared.Opened.{Opened}
-use Rattle.call_open.specs.declared.Opened.TheVariants as opened
 use Rattle.call_open.specs.Opening.{admitted, OpenedSheet}
 use Rattle.call_questions.specs.Asked.{asked_by, asked}
 use Rattle.call_questions.specs.StartLaws.{entries_number, from_start, start_place}
@@ -91,7 +91,7 @@ module _ {cap : Capacity} {slots counts work : List ℕ} {n m : ℕ} (w : Opened
 
 -- ---- the reply
 
-pub place_reply_lem : (found : Opened) (rank : ℕ) (list : List ℕ) {n m : ℕ} {p : Placing} → admitted (question_cause (place_of rank)) found ≡ opened.Sheet n m
-    → p ≡ placing_in list rank → record { answer = placed p; output = [] } ≡ asked (place_of rank) found list []
+pub place_reply_lem : (found : Result Opened Cause) (rank : ℕ) (list : List ℕ) {sheet : Opened} {p : Placing} → admitted (question_cause (place_of rank)) found ≡ Ok sheet
+    → p ≡ placing_in list rank → record { answer = Ok (placed p); output = [] } ≡ asked (place_of rank) found list []
 unfolding asked asked_by reply_to written_for
 place_reply_lem found rank list is value = rw (is, value)

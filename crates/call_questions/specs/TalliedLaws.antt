@@ -1,5 +1,5 @@
 -- The tallies of a plain sheet by range number: they are those of the ranges of its slots, and the root's is that of the whole list.
-use Rattle.std.specs.Prelude.{◌≡◌, List, ℕ, ◌*◌, ◌^◌, ◌≤◌, length, get_or}
+use Rattle.std.specs.Prelude.{Result, Ok, ◌≡◌, List, ℕ, ◌*◌, ◌^◌, ◌≤◌, length, get_or}
 use Rattle.std.proofs.Common.{◌∙◌}
 use Rattle.std.proofs.Math.Path.{ap}
 use Rattle.tree_sizes.specs.Sizes.{height}
@@ -12,19 +12,20 @@ use Rattle.store_tallies.specs.TallyTree.{tally_tree}
 use Rattle.store_tallies.specs.LayLaws.{length_range_tallies, range_tallies_holds}
 use Rattle.store_tallies.specs.LaidLaws.{tallies_laid}
 use Rattle.call_outcomes.specs.Untallied.{store_of}
+use Rattle.call_outcomes.specs.declared.Cause.{Cause}
 use Rattle.call_open.specs.declared.Opened.{Opened}
-use Rattle.call_open.specs.declared.Opened.TheVariants as opened
 use Rattle.call_questions.specs.Asked.{Tallied, ByNumber}
 use Rattle.call_questions.specs.StartLaws.{decoded_list, laid, ranges_room}
 
-pub by_number : {found : Opened} {slots work words : List ℕ} {n m : ℕ} → Tallied found slots work words → found ≡ opened.Sheet n m → ByNumber m slots work words
-by_number {n = n} {m = m} t is = record {
+pub by_number : {found : Result Opened Cause} {slots work words : List ℕ} {sheet : Opened} → Tallied found slots work words → found ≡ Ok sheet
+    → ByNumber sheet.m slots work words
+by_number {sheet = sheet} t is = record {
   cap = t.readable.cap;
   counts = t.readable.counts;
-  entries = n;
+  entries = sheet.n;
   ready = t.readable.ready;
-  sheet = t.readable.sheet n m is;
-  tallies = t.tallies n m is;
+  sheet = t.readable.sheet sheet is;
+  tallies = t.tallies sheet is;
 }
 
 module _ {m : ℕ} {slots work words : List ℕ} (t : ByNumber m slots work words) where

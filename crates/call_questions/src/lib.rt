@@ -8,59 +8,51 @@ ghost use Rattle.call_outcomes.specs.PlainCalls.{read_ranks, place_of, count_of,
 ghost use Rattle.call_questions.specs.Asked.{asked, Answers, Readable, Tallied, ByNumber};
 
 use call_open::Opened;
-use call_outcomes::Answer;
+use call_outcomes::{Answer, Cause};
 use store_layout::count_at;
 use store_ties::Placing;
 use tree_sizes::Size;
 
 // Copies the entries of ranks first to last to the front of the output, from the leaf on in which the first of them stands.
 pub fn read(
-    opened: Opened,
+    opened: Result<Opened, Cause>,
     slots: &[u64],
     work: &[u32],
     first: usize,
     last: usize,
     output: &mut [u64],
-) -> Answer
+) -> Result<Answer, Cause>
     requires { Readable opened slots.now work.now }
     ensures { record { answer = result; output = output.new }
         ≡ asked (read_ranks first last (length output.old)) opened (nonzero slots.now) output.old }
 {
-    match call_open::admit_read(opened, first, last, output.len()) {
-        Opened::Sheet { n: _, m } => {
-            let count = last - first + 1;
-            let start = store_rank::start_of(Size { m: m }, work, first);
-            store_slices::read_from(slots, start.slot, start.rank, count, output);
-            Answer::Entries { count: count }
-        }
-        Opened::Refused(cause) => Answer::Refused(cause),
-    }
+    let sheet = call_open::admit_read(opened, first, last, output.len())?;
+    let count = last - first + 1;
+    let start = store_rank::start_of(Size { m: sheet.m }, work, first);
+    store_slices::read_from(slots, start.slot, start.rank, count, output);
+    Ok(Answer::Entries { count: count })
 }
 
 // Copies the entries at the ranks to the front of the output, in one walk along the slots: the leaves before that of the first rank are passed by
 // their counts, and from there on it goes forward only.
 pub fn board(
-    opened: Opened,
+    opened: Result<Opened, Cause>,
     slots: &[u64],
     work: &[u32],
     ranks: &[u64],
     output: &mut [u64],
-) -> Answer
+) -> Result<Answer, Cause>
     requires { Readable opened slots.now work.now }
     ensures { record { answer = result; output = output.new }
         ≡ asked (board_of ranks.now (length output.old)) opened (nonzero slots.now) output.old }
 {
-    match call_open::admit_board(opened, ranks, output.len()) {
-        Opened::Sheet { n: _, m } => {
-            if 0 < ranks.len() {
-                let lowest = ranks[0] as usize;
-                let start = store_rank::start_of(Size { m: m }, work, lowest);
-                store_board::copy_entries(slots, start.slot, lowest - start.rank, ranks, output);
-            }
-            Answer::Entries { count: ranks.len() }
-        }
-        Opened::Refused(cause) => Answer::Refused(cause),
+    let sheet = call_open::admit_board(opened, ranks, output.len())?;
+    if 0 < ranks.len() {
+        let lowest = ranks[0] as usize;
+        let start = store_rank::start_of(Size { m: sheet.m }, work, lowest);
+        store_board::copy_entries(slots, start.slot, lowest - start.rank, ranks, output);
     }
+    Ok(Answer::Entries { count: ranks.len() })
 }
 
 // What the boat at the rank has, on a sheet with the size parameter m whose tallies stand by range number. The scoring boats before her are those
@@ -79,29 +71,29 @@ fn placing_of(m: usize, slots: &[u64], work: &[u32], tallies: &[u32], rank: usiz
 
 // The place of the entry at the rank: that of her tied group, the sum of its places and the number of its boats; a retired boat has none.
 // `numbers` has the tallies by range number.
-pub fn place(opened: Opened, slots: &[u64], work: &[u32], numbers: &[u32], rank: usize) -> Answer
+pub fn place(
+    opened: Result<Opened, Cause>,
+    slots: &[u64],
+    work: &[u32],
+    numbers: &[u32],
+    rank: usize,
+) -> Result<Answer, Cause>
     requires { Tallied opened slots.now work.now numbers.now }
     ensures { record { answer = result; output = [] } ≡ asked (place_of rank) opened (nonzero slots.now) [] }
 {
-    match call_open::admit_rank(opened, rank) {
-        Opened::Sheet { n: _, m } => {
-            let placing = placing_of(m, slots, work, numbers, rank);
-            Answer::Placed {
-                place: placing.place,
-                sum: placing.sum,
-                boats: placing.boats,
-            }
-        }
-        Opened::Refused(cause) => Answer::Refused(cause),
-    }
+    let sheet = call_open::admit_rank(opened, rank)?;
+    let placing = placing_of(sheet.m, slots, work, numbers, rank);
+    Ok(Answer::Placed {
+        place: placing.place,
+        sum: placing.sum,
+        boats: placing.boats,
+    })
 }
 
 // The number of entries of a sheet.
-pub fn check(opened: Opened) -> Answer
+pub fn check(opened: Result<Opened, Cause>) -> Result<Answer, Cause>
     ensures { Answers count_of opened result }
 {
-    match opened {
-        Opened::Sheet { n, m: _ } => Answer::Checked { n: n },
-        Opened::Refused(cause) => Answer::Refused(cause),
-    }
+    let sheet = opened?;
+    Ok(Answer::Checked { n: sheet.n })
 }

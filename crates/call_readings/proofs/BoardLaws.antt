@@ -2,7 +2,7 @@
 -- about plain sheets.
 use Rattle.std.proofs.Math.Path.{◌≡◌, refl, sym}
 use Rattle.std.proofs.Common.{◌∙◌, ⊎_elim, arith}
-use Rattle.std.specs.Prelude.{true, false, ◌⊎◌, ◌↔◌, ℕ, ◌+◌, ◌-◌, ◌≤◌, ◌<◌, ltb, length, drop}
+use Rattle.std.specs.Prelude.{Ok, Err, true, false, ◌⊎◌, ◌↔◌, ℕ, ◌+◌, ◌-◌, ◌≤◌, ◌<◌, ltb, length, drop}
 use Rattle.std.proofs.Math.Bool.{or-true}
 use mathlib.Core.List.{List, [], ◌∷◌, ◌++◌}
 use Rattle.std.proofs.Math.Option.{Option, some, none}
@@ -15,7 +15,7 @@ use Rattle.store_board.specs.Board.{falls_below, falls, some_from, entries_at}
 use Rattle.store_board.specs.BoardLaws.{entry_next, rank_inside, rank_outside}
 use Rattle.call_outcomes.specs.declared.Cause.{Cause}
 use Rattle.call_outcomes.specs.declared.Cause.TheVariants.{BoardRanks, Rank, OutputShort}
-use Rattle.call_outcomes.specs.declared.Answer.TheVariants.{Entries, Refused}
+use Rattle.call_outcomes.specs.declared.Answer.TheVariants.{Entries}
 use Rattle.call_outcomes.specs.Kind.{SheetOf, ask, Kind, Lawful, StoreFor}
 use Rattle.call_outcomes.specs.Causes.{first_of, argument_cause, Decision, refuse, accept, decision}
 use Rattle.call_outcomes.specs.Outcome.{Outcome, refused, outcome}
@@ -35,7 +35,7 @@ module _ (kind : Kind) (lawful : Lawful kind) (asks : Question → kind.calls.Qu
   single store rank tape x = outcome kind (ask (asks (read_ranks rank rank 1))) tape store (x ∷ [])
 
   -- On any store: a board that is refused leaves the output as it was.
-  pub board_untouched : (store : StoreFor kind) (ranks tape output : List ℕ) (cause : Cause) → (board store ranks tape output).answer ≡ Refused cause
+  pub board_untouched : (store : StoreFor kind) (ranks tape output : List ℕ) (cause : Cause) → (board store ranks tape output).answer ≡ Err cause
       → (board store ranks tape output).output ≡ output
   unfolding refused reply_to
   board_untouched store ranks tape output cause refusal = go (decision kind (ask (asks (board_of ranks (length output)))) store) refl
@@ -54,20 +54,20 @@ module _ (kind : Kind) (lawful : Lawful kind) (asks : Question → kind.calls.Qu
       one : rank - rank + 1 ≡ 1
       one = omega arith
 
-      single_read : rank < length list → single store rank tape x ≡ record { answer = Entries 1; store = store; output = get_or list rank 0 ∷ [] }
+      single_read : rank < length list → single store rank tape x ≡ record { answer = Ok (Entries 1); store = store; output = get_or list rank 0 ∷ [] }
       unfolding written_for
       single_read inside =
           read_made kind lawful asks plainly list store w rank rank (omega arith) inside tape (x ∷ []) (omega arith)
           ∙ rw (one, drop-cons list rank 0 inside)
 
-      single_outside : length list ≤ rank → (single store rank tape x).answer ≡ Refused Rank
+      single_outside : length list ≤ rank → (single store rank tape x).answer ≡ Err Rank
       unfolding argument_cause question_cause first_of
       single_outside outside =
           refused_by kind lawful list store w (ask (asks (read_ranks rank rank 1))) Rank
           ((plainly (read_ranks rank rank 1)).causes list ∙ rw (le-leb (length list) rank outside)) tape (x ∷ [])
 
       -- It is refused by cause 4 only where it is the rank of no entry.
-      single_only : (single store rank tape x).answer ≡ Refused Rank → length list ≤ rank
+      single_only : (single store rank tape x).answer ≡ Err Rank → length list ≤ rank
       single_only refusal =
           ⊎_elim
           (λ inside. let made = single_read inside in let z : ◌≡◌ {A = ℕ} 0 1 = cc in absurd (omega arith))
@@ -80,12 +80,12 @@ module _ (kind : Kind) (lawful : Lawful kind) (asks : Question → kind.calls.Qu
       abbrev cause_of : Option Cause
       cause_of = question_cause (board_of ranks (length output)) (length list)
 
-      refused_for : (cause : Cause) → cause_of ≡ some cause → (board store ranks tape output).answer ≡ Refused cause
+      refused_for : (cause : Cause) → cause_of ≡ some cause → (board store ranks tape output).answer ≡ Err cause
       unfolding argument_cause
       refused_for cause e = refused_by kind lawful list store w (ask (asks (board_of ranks (length output)))) cause ((plainly _).causes list ∙ e) tape output
 
       made_for : cause_of ≡ none
-          → board store ranks tape output ≡ record { answer = Entries (length ranks); store = store; output = entries_at list ranks ++ drop (length ranks) output }
+          → board store ranks tape output ≡ record { answer = Ok (Entries (length ranks)); store = store; output = entries_at list ranks ++ drop (length ranks) output }
       unfolding reply_to
       made_for free =
           let within = board_within ranks (length output) (length list) free in
@@ -106,28 +106,28 @@ module _ (kind : Kind) (lawful : Lawful kind) (asks : Question → kind.calls.Qu
       cause_falls fall = rw (fall, or-true (ltb 64 (length ranks)))
 
       -- Cause 16: more than 64 ranks, or ranks that fall, whatever else is wrong with them.
-      pub board_falls : (64 < length ranks) ⊎ (falls ranks ≡ true) → (board store ranks tape output).answer ≡ Refused BoardRanks
+      pub board_falls : (64 < length ranks) ⊎ (falls ranks ≡ true) → (board store ranks tape output).answer ≡ Err BoardRanks
       board_falls wrong = refused_for BoardRanks (⊎_elim cause_many cause_falls wrong)
 
       module _ (few : length ranks ≤ 64) (in_order : falls ranks ≡ false) where
-        outside_refused : some_from (length list) ranks ≡ true → (board store ranks tape output).answer ≡ Refused Rank
+        outside_refused : some_from (length list) ranks ≡ true → (board store ranks tape output).answer ≡ Err Rank
         unfolding question_cause first_of
         outside_refused outside = refused_for Rank (rw (le-ltb 64 (length ranks) few, in_order, outside))
 
         module _ (inside : some_from (length list) ranks ≡ false) where
           -- Cause 6, where every rank is that of an entry.
-          pub board_short : length output < length ranks → (board store ranks tape output).answer ≡ Refused OutputShort
+          pub board_short : length output < length ranks → (board store ranks tape output).answer ≡ Err OutputShort
           unfolding question_cause first_of
           board_short short =
               refused_for OutputShort (rw (le-ltb 64 (length ranks) few, in_order, inside, lt-ltb (length output) (length ranks) short))
 
           -- Otherwise the entries at the ranks come to the front of the output, and the rest of it stays.
           pub board_made : length ranks ≤ length output
-              → board store ranks tape output ≡ record { answer = Entries (length ranks); store = store; output = entries_at list ranks ++ drop (length ranks) output }
+              → board store ranks tape output ≡ record { answer = Ok (Entries (length ranks)); store = store; output = entries_at list ranks ++ drop (length ranks) output }
           unfolding question_cause first_of
           board_made room = made_for (rw (le-ltb 64 (length ranks) few, in_order, inside, le-ltb (length output) (length ranks) room))
 
-          not_rank : (board store ranks tape output).answer ≡ Refused Rank → ⊥
+          not_rank : (board store ranks tape output).answer ≡ Err Rank → ⊥
           not_rank refusal =
               ⊎_elim
               (λ short. let other = board_short short in let z : ◌≡◌ {A = ℕ} 0 1 = cc in omega arith)
@@ -136,19 +136,19 @@ module _ (kind : Kind) (lawful : Lawful kind) (asks : Question → kind.calls.Qu
 
         -- Cause 4: exactly when the read of one of the ranks is refused by it.
         pub board_rank : (tape' : List ℕ) (x : ℕ)
-            → ((board store ranks tape output).answer ≡ Refused Rank)
-            ↔ ((k : ℕ) × (k < length ranks) × ((single store (get_or ranks k 0) tape' x).answer ≡ Refused Rank))
+            → ((board store ranks tape output).answer ≡ Err Rank)
+            ↔ ((k : ℕ) × (k < length ranks) × ((single store (get_or ranks k 0) tape' x).answer ≡ Err Rank))
         board_rank tape' x = (found, λ one. outside_refused (some_outside one))
           where
-            found : (board store ranks tape output).answer ≡ Refused Rank
-                → (k : ℕ) × (k < length ranks) × ((single store (get_or ranks k 0) tape' x).answer ≡ Refused Rank)
+            found : (board store ranks tape output).answer ≡ Err Rank
+                → (k : ℕ) × (k < length ranks) × ((single store (get_or ranks k 0) tape' x).answer ≡ Err Rank)
             found refusal =
                 ⊎_elim
                 (λ some. let at = rank_outside (length list) ranks some in (at.0, at.1, single_outside (get_or ranks at.0 0) tape' x at.2))
                 (λ none. absurd (not_rank none refusal))
                 (true_or_false (some_from (length list) ranks))
 
-            some_outside : (k : ℕ) × (k < length ranks) × ((single store (get_or ranks k 0) tape' x).answer ≡ Refused Rank)
+            some_outside : (k : ℕ) × (k < length ranks) × ((single store (get_or ranks k 0) tape' x).answer ≡ Err Rank)
                 → some_from (length list) ranks ≡ true
             some_outside one =
                 ⊎_elim (λ some. some)
@@ -157,7 +157,7 @@ module _ (kind : Kind) (lawful : Lawful kind) (asks : Question → kind.calls.Qu
 
       -- ---- a board that is accepted
 
-      module _ (n : ℕ) (accepted : (board store ranks tape output).answer ≡ Entries n) where
+      module _ (n : ℕ) (accepted : (board store ranks tape output).answer ≡ Ok (Entries n)) where
         free : cause_of ≡ none
         unfolding argument_cause
         free =
@@ -184,6 +184,6 @@ module _ (kind : Kind) (lawful : Lawful kind) (asks : Question → kind.calls.Qu
             (drop-append_seam (entries_at list ranks) _)
 
     -- No ranks are accepted, and nothing is written.
-    pub board_none : (tape output : List ℕ) → board store [] tape output ≡ record { answer = Entries 0; store = store; output = output }
+    pub board_none : (tape output : List ℕ) → board store [] tape output ≡ record { answer = Ok (Entries 0); store = store; output = output }
     unfolding falls_below some_from
     board_none tape output = board_made [] tape output (omega arith) refl refl (omega arith)

@@ -1,14 +1,14 @@
 -- Adjacent readings joined are the reading of the whole (document 02, F-10), for every kind of sheet that answers the questions about plain
 -- sheets.
-use Rattle.std.specs.Prelude.{◌≡◌, ◌⊎◌, ◌↔◌, List, [], ◌++◌, ℕ, suc, ◌+◌, ◌-◌, ◌≤◌, ◌<◌, min, ltb, length, take, drop}
-use Rattle.std.proofs.Common.{ap, ◌∙◌, inl, inr, ⊎_elim, append-nil, append_assoc, arith, length-take, length-drop, take-add, drop-drop}
+use Rattle.std.specs.Prelude.{Ok, Err, ◌≡◌, ◌⊎◌, ◌↔◌, List, [], ◌++◌, ℕ, suc, ◌+◌, ◌-◌, ◌≤◌, ◌<◌, min, ltb, length, take, drop}
+use Rattle.std.proofs.Common.{ap, ◌∙◌, inl, inr, ⊎_elim, append-nil, append_assoc, arith, length-take, length-drop, drop-drop}
 use Rattle.std.proofs.Math.Option.{none}
 use Rattle.std.proofs.Math.Nat.{sub_self}
 use borrow.Author.Tests.{lt-ltb, le-ltb, lt-leb}
 use Rattle.base.specs.CaseLaws.{lt_or_ge}
 use Rattle.base.specs.ListLaws.{length_part, drop_take}
 use Rattle.call_outcomes.specs.declared.Cause.TheVariants.{OutputShort}
-use Rattle.call_outcomes.specs.declared.Answer.TheVariants.{Entries, Refused}
+use Rattle.call_outcomes.specs.declared.Answer.TheVariants.{Entries}
 use Rattle.call_outcomes.specs.Kind.{SheetOf, ask, Kind, Lawful, StoreFor}
 use Rattle.call_outcomes.specs.Causes.{first_of, argument_cause}
 use Rattle.call_outcomes.specs.Outcome.{Outcome, outcome}
@@ -45,7 +45,7 @@ module _ (kind : Kind) (lawful : Lawful kind) (asks : Question → kind.calls.Qu
     cause_is = rw (lt-leb (length list) first (omega arith), lt-leb (length list) last inside, le-ltb last first in_order)
 
     -- It is refused by cause 6 where the output is too short.
-    read_short : length output < rank_count first last → (read first last tape output).answer ≡ Refused OutputShort
+    read_short : length output < rank_count first last → (read first last tape output).answer ≡ Err OutputShort
     unfolding argument_cause first_of
     read_short short =
         refused_by kind lawful list store w (ask (asks (read_ranks first last (length output)))) OutputShort
@@ -55,7 +55,7 @@ module _ (kind : Kind) (lawful : Lawful kind) (asks : Question → kind.calls.Qu
     pub read_made : rank_count first last ≤ length output
         → read first last tape output
         ≡ record {
-          answer = Entries (rank_count first last);
+          answer = Ok (Entries (rank_count first last));
           store = store;
           output = written_for (read_ranks first last (length output)) list ++ drop (rank_count first last) output;
         }
@@ -66,7 +66,7 @@ module _ (kind : Kind) (lawful : Lawful kind) (asks : Question → kind.calls.Qu
         ∙ rw ((plainly (read_ranks first last (length output))).reply list, (plainly (read_ranks first last (length output))).written list, written_length list first last (length output) in_order inside)
 
     -- So it is refused by cause 6 only where the output is too short.
-    short_only : (read first last tape output).answer ≡ Refused OutputShort → length output < rank_count first last
+    short_only : (read first last tape output).answer ≡ Err OutputShort → length output < rank_count first last
     short_only refused =
         ⊎_elim (λ short. short)
         (λ room.
@@ -109,8 +109,8 @@ module _ (kind : Kind) (lawful : Lawful kind) (asks : Question → kind.calls.Qu
         (append_assoc W₁ W₂ _)
 
     -- The whole is refused by cause 6 exactly when one of the two is.
-    pub joined_refused : ((read first last tape output).answer ≡ Refused OutputShort)
-        ↔ (((read first mid tape₁ front).answer ≡ Refused OutputShort) ⊎ ((read (suc mid) last tape₂ rest).answer ≡ Refused OutputShort))
+    pub joined_refused : ((read first last tape output).answer ≡ Err OutputShort)
+        ↔ (((read first mid tape₁ front).answer ≡ Err OutputShort) ⊎ ((read (suc mid) last tape₂ rest).answer ≡ Err OutputShort))
     joined_refused =
         let front_length : length front ≡ min (rank_count first mid) (length output) = length-take (rank_count first mid) output in
         let rest_length : length rest ≡ length output - rank_count first mid = length-drop (rank_count first mid) output in (

@@ -1,6 +1,6 @@
 -- Timed sheets (document 02, F-1), for any capacity: a plain sheet whose entries rise, with the balance entries in a further slice.
 -- Definitions only.
-use Rattle.std.specs.Prelude.{Bool, true, false, List, [], ◌≡◌, ℕ, eqb, leb, length}
+use Rattle.std.specs.Prelude.{Result, Bool, true, false, List, [], ◌≡◌, ℕ, eqb, leb, length}
 use Rattle.std.proofs.Math.Option.{Option, none}
 use Rattle.tree_rules.specs.Tree.{Shape}
 use Rattle.store_layout.specs.declared.Capacity.{Capacity}
@@ -152,7 +152,7 @@ abbrev pub timed_numbers : TimedStore → List ℕ
 timed_numbers store = numbered store.sheet.sheet
 
 -- What a call leaves in the slices that it was lent.
-abbrev pub timed_outcome_of : Answer → List ℕ → List ℕ → List ℕ → List ℕ → List ℕ → Outcome TimedStore
+abbrev pub timed_outcome_of : Result Answer Cause → List ℕ → List ℕ → List ℕ → List ℕ → List ℕ → Outcome TimedStore
 timed_outcome_of answer slots counts tallies balance output = record {
   answer = answer;
   store = timed_store_of slots counts tallies balance;

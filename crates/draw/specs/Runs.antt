@@ -1,8 +1,7 @@
 -- How many runs of words make a draw read them all and give a face. Definitions only.
-use Rattle.std.specs.Prelude.{Bool, true, false, ◌&&◌, List, [], ◌∷◌, ℕ, zero, suc, ◌+◌, ◌*◌, ◌/◌, ◌%◌, ◌^◌, eqb}
+use Rattle.std.specs.Prelude.{Bool, true, false, ◌&&◌, List, [], ◌∷◌, ℕ, zero, suc, ◌+◌, ◌*◌, ◌/◌, ◌%◌, ◌^◌, eqb, Option, Some, None}
 use Rattle.base.specs.Cases.{if_eq}
 use Rattle.draw.specs.declared.Drawn.{Drawn}
-use Rattle.draw.specs.declared.Drawn.TheVariants.{Face, Ended}
 use Rattle.draw.specs.Draw.{draw_from}
 
 -- h 0 + .. + h (n - 1)
@@ -21,9 +20,9 @@ runs W zero test = one (test [])
 runs W (suc k) test = sum_below W (λ word. runs W k (λ words. test (word ∷ words)))
 
 -- The draw gives this face and ends at this place.
-unfoldable pub gives : ℕ → ℕ → Drawn → Bool
-gives face place (Face f n) = eqb f face && eqb n place
-gives face place Ended = false
+unfoldable pub gives : ℕ → ℕ → Option Drawn → Bool
+gives face place (Some d) = eqb d.face face && eqb d.next place
+gives face place None = false
 
 -- How many runs of k words below W make the draw among m faces read all k and give the face.
 unfoldable pub face_runs : ℕ → ℕ → ℕ → ℕ → ℕ

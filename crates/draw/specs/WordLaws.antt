@@ -3,8 +3,7 @@ use Rattle.std.specs.Prelude.{◌≡◌, ◌≢◌, List, ◌∷◌, ◌++◌, �
 use Rattle.std.proofs.Common.{◌∙◌, le-mul_of_pos_right, mod-eq_of_lt, arith}
 use Rattle.std.proofs.Math.Nat.{lt-mul-div-succ}
 use Rattle.std.proofs.Math.Seq.{drop-append_seam}
-use Rattle.draw.specs.declared.Drawn.TheVariants.{Face}
-use Rattle.draw.specs.Draw.{draw_at}
+use Rattle.draw.specs.Draw.{face_at, draw_at}
 use Rattle.draw.specs.DrawLaws.{scan_take, draw_many}
 
 div_pos : (W m : ℕ) → 0 < m → m ≤ W → 0 < W / m
@@ -15,7 +14,7 @@ div_pos W m pos l = go (W / m) (lt-mul-div-succ W pos)
     go (suc q) h = omega arith
 
 pub word_decides : (m face : ℕ) (before after : List ℕ) → m ≢ 1 → face < m → m ≤ 2 ^ 32
-    → draw_at m (before ++ face ∷ after) (length before) ≡ Face face (suc (length before))
+    → draw_at m (before ++ face ∷ after) (length before) ≡ face_at face (suc (length before))
 unfolding draw_at
 word_decides m face before after many below few =
     let limit = m * (2 ^ 32 / m) in

@@ -1,12 +1,11 @@
 -- A draw at any place depends on the words that it reads alone: not on the words before its place, nor on those behind.
-use Rattle.std.specs.Prelude.{◌≡◌, refl, false, ◌≢◌, List, [], ◌∷◌, ◌++◌, ℕ, suc, ◌+◌, ◌*◌, ◌/◌, ◌<◌, ◌≤◌, eqb, length, drop}
+use Rattle.std.specs.Prelude.{◌≡◌, refl, false, ◌≢◌, List, [], ◌∷◌, ◌++◌, ℕ, suc, ◌+◌, ◌*◌, ◌/◌, ◌<◌, ◌≤◌, eqb, length, drop, Option, Some, None}
 use Rattle.std.proofs.Common.{sym, ◌∙◌, ⊎_elim, arith, add-suc, add-zero, eq-eqb, ne_eqb, length-drop}
 use Rattle.std.proofs.Math.Bool.{and-false}
 use Rattle.std.proofs.lemmas.List.{drop-append-le}
 use Rattle.std.proofs.Math.Seq.{drop-append-add}
 use Rattle.base.specs.CaseLaws.{eq_or_ne, lt_or_ge}
 use Rattle.draw.specs.declared.Drawn.{Drawn}
-use Rattle.draw.specs.declared.Drawn.TheVariants.{Face, Ended}
 use Rattle.draw.specs.Draw.{scan, draw_from, moved}
 use Rattle.draw.specs.DrawLaws.{scan_nil, scan_take, scan_pass, draw_one, draw_many}
 use Rattle.draw.specs.Runs.{gives}
@@ -76,10 +75,10 @@ eqb_add n x y =
     (λ (ne : x ≢ y). ne_eqb (n + x) (n + y) (λ e. ne (omega arith)) ∙ sym (ne_eqb x y ne))
     (eq_or_ne x y)
 
-pub gives_moved : (n face place : ℕ) (d : Drawn) → gives face (n + place) (moved n d) ≡ gives face place d
+pub gives_moved : (n face place : ℕ) (d : Option Drawn) → gives face (n + place) (moved n d) ≡ gives face place d
 unfolding gives
-gives_moved n face place (Face f next) = rw (eqb_add n next place)
-gives_moved n face place Ended = refl
+gives_moved n face place (Some d) = rw (eqb_add n d.next place)
+gives_moved n face place None = refl
 
 -- Whether a draw gives this face and reads exactly these words depends on these words alone, whatever stands before and behind them.
 pub draw_reads : (W m face : ℕ) (before words more : List ℕ)

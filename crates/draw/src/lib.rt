@@ -3,57 +3,20 @@
 #![tactic(auto)]
 
 ghost use Rattle.std.specs.Prelude.{◌≡◌};
-ghost use Rattle.draw.specs.Draw.{draw_at, tape_place_after, face_of, drawn_of};
+ghost use Rattle.draw.specs.Draw.{draw_at, tape_place_after, face_of};
 
-// What a draw gives: a face with the place after the last word read, or nothing, where the tape ended first.
+// What a draw gives: a face, and the place after the last word read. Where the tape ended first, a draw gives none.
 #[derive(Clone, Copy)]
-pub enum Drawn {
-    Face { face: usize, next: usize },
-    Ended,
+pub struct Drawn {
+    pub face: usize,
+    pub next: usize,
 }
 
-impl Drawn {
-    // The place on the tape after a draw from the place `at`: an ended draw leaves it where it was.
-    pub fn tape_place(self, at: usize) -> usize
-        ensures { result ≡ tape_place_after at self }
-    {
-        match self {
-            Drawn::Face { face: _, next } => next,
-            Drawn::Ended => at,
-        }
-    }
-
-    // What the draw gives besides the place.
-    fn face(self) -> DrawnFace
-        ensures { result ≡ face_of self }
-    {
-        match self {
-            Drawn::Face { face, next: _ } => DrawnFace::Face(face),
-            Drawn::Ended => DrawnFace::TapeEnded,
-        }
-    }
-}
-
-// What a draw gives where its place is kept apart: a face, or that the tape ended.
-#[derive(Clone, Copy)]
-pub enum DrawnFace {
-    Face(usize),
-    TapeEnded,
-}
-
-impl DrawnFace {
-    // The same with the place after the draw.
-    fn with_place(self, after: usize) -> Drawn
-        ensures { result ≡ drawn_of after self }
-    {
-        match self {
-            DrawnFace::Face(face) => Drawn::Face {
-                face: face,
-                next: after,
-            },
-            DrawnFace::TapeEnded => Drawn::Ended,
-        }
-    }
+// The place on the tape after a draw from the place `at`: an ended draw leaves it where it was.
+pub fn tape_place(drawn: Option<Drawn>, at: usize) -> usize
+    ensures { result ≡ tape_place_after at drawn }
+{
+    drawn.map_or(at, |d| d.next)
 }
 
 // A place on the tape, which moves on with every word read.
@@ -64,51 +27,45 @@ pub struct TapePlace {
 
 // A draw among m faces by the words of the tape from the place `at` on: the place is a number in and out. A word is below m * (2^32 / m)
 // exactly where its multiple of m, word - word % m, is at most 2^32 - m, so that each word takes one division.
-fn draw_at(tape: &[u32], at: usize, m: usize) -> Drawn
+fn draw_at(tape: &[u32], at: usize, m: usize) -> Option<Drawn>
     ensures { result ≡ draw_at m tape.now at }
 {
     if m == 1 {
-        return Drawn::Face { face: 0, next: at };
+        return Some(Drawn { face: 0, next: at });
     }
     if m == 0 {
-        return Drawn::Ended;
+        return None;
     }
     if m > 4294967296 {
-        return Drawn::Ended;
+        return None;
     }
     let last = 4294967296 - m;
-    let mut i = at;
-    while i < tape.len() {
+    for i in at..tape.len() {
         let word = tape[i] as usize;
         let face = word % m;
         if word - face <= last {
-            let next = i + 1;
-            return Drawn::Face {
-                face: face,
-                next: next,
-            };
+            return Some(Drawn { face, next: i + 1 });
         }
-        i += 1;
     }
-    Drawn::Ended
+    None
 }
 
 // A draw from a place that is lent: it moves on past the words read, and where the tape ends it stays what it was before the draw.
-pub fn draw_and_advance(tape: &[u32], place: &mut TapePlace, m: usize) -> DrawnFace
+pub fn draw_and_advance(tape: &[u32], place: &mut TapePlace, m: usize) -> Option<usize>
     ensures { (result ≡ face_of (draw_at m tape.now place.old.at))
         × (place.new.at ≡ tape_place_after place.old.at (draw_at m tape.now place.old.at)) }
 {
-    let at = place.at;
-    let d = draw_at(tape, at, m);
-    place.at = d.tape_place(at);
-    d.face()
+    let drawn = draw_at(tape, place.at, m);
+    place.at = tape_place(drawn, place.at);
+    drawn.map(|d| d.face)
 }
 
 // The same through plain parameters, so that a caller needs no reference to a struct: the sheet draws by this.
-pub fn draw(tape: &[u32], at: usize, m: usize) -> Drawn
+pub fn draw(tape: &[u32], at: usize, m: usize) -> Option<Drawn>
     ensures { result ≡ draw_at m tape.now at }
 {
-    let mut place = TapePlace { at: at };
+    let mut place = TapePlace { at };
     let face = draw_and_advance(tape, &mut place, m);
-    face.with_place(place.at)
+    let next = place.at;
+    face.map(|face| Drawn { face, next })
 }

@@ -5,8 +5,7 @@ use Rattle.std.proofs.Common.{ap, ◌∙◌, arith, length-append}
 use Rattle.std.proofs.Math.Logic.{⊎_elim}
 use mathlib.Core.List.{List, [], ◌∷◌, ◌++◌, append-nil, append_assoc}
 use Rattle.base.specs.CaseLaws.{eq_or_ne, if_eq_yes, if_eq_no}
-use Rattle.draw.specs.declared.Drawn.TheVariants.{Face}
-use Rattle.draw.specs.Draw.{draw_at}
+use Rattle.draw.specs.Draw.{face_at, draw_at}
 use Rattle.draw.specs.DrawLaws.{draw_one}
 use Rattle.draw.specs.WordLaws.{word_decides}
 use Rattle.draw_shares.specs.Program.{Program, done, draw, Among, Draws}
@@ -21,7 +20,7 @@ module _ {A : Type 0} where
     pub ends : run_at p tape at ≡ ran a (length tape)
     pub faces_are : faces_on p tape at ≡ faces
 
-  draw_reads : (m : ℕ) (p : ℕ → Program A) (tape : List ℕ) (at face next : ℕ) (faces : List ℕ) (a : A) → draw_at m tape at ≡ Face face next
+  draw_reads : (m : ℕ) (p : ℕ → Program A) (tape : List ℕ) (at face next : ℕ) (faces : List ℕ) (a : A) → draw_at m tape at ≡ face_at face next
       → Reads (p face) tape next faces a → Reads (draw m p) tape at (face ∷ faces) a
   unfolding faces_on faces_after
   draw_reads m p tape at face next faces a e r = record {

@@ -1,11 +1,10 @@
 -- That words decide a course says what the run on a tape does.
-use Rattle.std.specs.Prelude.{◌≡◌, refl, true, List, [], ◌∷◌, ℕ, ◌+◌, ◌-◌, ◌≤◌, ◌^◌, length, take}
+use Rattle.std.specs.Prelude.{◌≡◌, refl, true, List, [], ◌∷◌, ℕ, ◌+◌, ◌-◌, ◌≤◌, ◌^◌, length, take, Option, Some, None}
 use Rattle.std.proofs.Common.{ap, ap₂, sym, ◌∙◌, arith, add-zero, eq-eqb, eqb-true}
 use Rattle.base.specs.Lists.{total}
 use Rattle.base.specs.BoolLaws.{and_both}
 use Rattle.draw.specs.declared.Drawn.{Drawn}
-use Rattle.draw.specs.declared.Drawn.TheVariants.{Face, Ended}
-use Rattle.draw.specs.Draw.{draw_at}
+use Rattle.draw.specs.Draw.{face_at, draw_at}
 use Rattle.draw.specs.DrawLaws.{draw_sound}
 use Rattle.draw.specs.Runs.{gives}
 use Rattle.draw_shares.specs.Program.{Program, done, draw}
@@ -15,14 +14,14 @@ use Rattle.draw_shares.specs.Course.{Follows}
 use Rattle.draw_shares.specs.CourseRuns.{decided, numbers_after, numbers_on}
 use Rattle.draw_shares.proofs.CourseRunsLaws.{decided_front}
 
-gives_face : (face place : ℕ) (d : Drawn) → gives face place d ≡ true → d ≡ Face face place
+gives_face : (face place : ℕ) (d : Option Drawn) → gives face place d ≡ true → d ≡ face_at face place
 unfolding gives
-gives_face face place (Face f n) e =
+gives_face face place (Some d) e =
     let both = and_both _ _ e in
-    let ef : f ≡ face = eqb-true f face both.0 in
-    let en : n ≡ place = eqb-true n place both.1 in
-    ap₂ Face ef en
-gives_face face place Ended e = let z : ◌≡◌ {A = ℕ} 0 1 = cc in absurd (omega arith)
+    let ef : d.face ≡ face = eqb-true d.face face both.0 in
+    let en : d.next ≡ place = eqb-true d.next place both.1 in
+    ap₂ face_at ef en
+gives_face face place None e = let z : ◌≡◌ {A = ℕ} 0 1 = cc in absurd (omega arith)
 
 -- What a run on a tape does whose words decide the faces with the numbers.
 pub record Decides {A : Type 0} (p : Program A) (faces numbers tape : List ℕ) (at : ℕ) (a : A) : Type 0 where
@@ -43,7 +42,7 @@ decided_run {A} (draw m p) (g ∷ fs) (k ∷ ks) tape at a f e =
     let both = and_both _ _ e in
     go (gives_face g (at + k) (draw_at m tape at) both.0) (decided_run (p g) fs ks tape (at + k) a f.1 both.1)
   where
-    go : draw_at m tape at ≡ Face g (at + k) → Decides (p g) fs ks tape (at + k) a → Decides (draw m p) (g ∷ fs) (k ∷ ks) tape at a
+    go : draw_at m tape at ≡ face_at g (at + k) → Decides (p g) fs ks tape (at + k) a → Decides (draw m p) (g ∷ fs) (k ∷ ks) tape at a
     go same rest =
         let place : at + k + total ks ≡ at + (k + total ks) = omega arith in
         let number : at + k - at ≡ k = omega arith in
@@ -61,18 +60,18 @@ run_decided (done b) tape at a next e = let same : at ≡ next = cc in (refl, om
 run_decided {A} (draw m p) tape at a next e =
     go (draw_at m tape at) refl (λ f n. run_decided (p f) tape n a next) e
   where
-    go : (d : Drawn) → draw_at m tape at ≡ d
+    go : (d : Option Drawn) → draw_at m tape at ≡ d
         → ((f n : ℕ) → run_at (p f) tape n ≡ ran a next
         → (decided (2 ^ 32) (p f) (faces_on (p f) tape n) (numbers_on (p f) tape n) tape n ≡ true) × (n + total (numbers_on (p f) tape n) ≡ next))
         → after_draw d (λ f n. run_at (p f) tape n) ≡ ran a next
         → (decided (2 ^ 32) (draw m p) (faces_after d (λ f n. faces_on (p f) tape n)) (numbers_after at d (λ f n. numbers_on (p f) tape n)) tape at ≡ true)
         × (at + total (numbers_after at d (λ f n. numbers_on (p f) tape n)) ≡ next)
-    go (Face f n) same ih e =
-        let sound : at ≤ n = (draw_sound m tape at f n same).onward in
-        let place : at + (n - at) ≡ n = omega arith in
-        let rest = ih f n e in
-        (rw (place, same, eq-eqb f f refl, eq-eqb n n refl) rest.0, omega (arith, rest.1))
-    go Ended same ih e = let z : ◌≡◌ {A = ℕ} 0 1 = cc in absurd (omega arith)
+    go (Some d) same ih e =
+        let sound : at ≤ d.next = (draw_sound m tape at d.face d.next same).onward in
+        let place : at + (d.next - at) ≡ d.next = omega arith in
+        let rest = ih d.face d.next e in
+        (rw (place, same, eq-eqb d.face d.face refl, eq-eqb d.next d.next refl) rest.0, omega (arith, rest.1))
+    go None same ih e = let z : ◌≡◌ {A = ℕ} 0 1 = cc in absurd (omega arith)
 
 -- A finished run is the same on the words that it read alone.
 pub run_read : {A : Type 0} (p : Program A) (tape : List ℕ) (a : A) (next : ℕ) → run_at p tape 0 ≡ ran a next

@@ -1,9 +1,8 @@
 -- Laws of the run on a tape, and the law that joins it to the courses.
-use Rattle.std.specs.Prelude.{◌≡◌, refl, List, [], ◌∷◌, ℕ, ◌≤◌, length}
+use Rattle.std.specs.Prelude.{◌≡◌, refl, List, [], ◌∷◌, ℕ, ◌≤◌, length, Option, Some, None}
 use Rattle.std.proofs.Common.{subst, arith}
 use Rattle.draw.specs.declared.Drawn.{Drawn}
-use Rattle.draw.specs.declared.Drawn.TheVariants.{Face, Ended}
-use Rattle.draw.specs.Draw.{draw_at}
+use Rattle.draw.specs.Draw.{face_at, draw_at}
 use Rattle.draw.specs.DrawLaws.{Sound, draw_sound, draw_within}
 use Rattle.draw_shares.specs.Program.{Program, done, draw, ◌>>=◌, Ends}
 use Rattle.draw_shares.specs.Tape.{ran, ended, after_draw, after_run, run_at, faces_after, faces_on}
@@ -14,11 +13,11 @@ unfolding run_at
 run_done a tape at = refl
 
 module _ {A : Type 0} (m : ℕ) (p : ℕ → Program A) (tape : List ℕ) (at : ℕ) where
-  pub run_face : (face next : ℕ) → draw_at m tape at ≡ Face face next → run_at (draw m p) tape at ≡ run_at (p face) tape next
+  pub run_face : (face next : ℕ) → draw_at m tape at ≡ face_at face next → run_at (draw m p) tape at ≡ run_at (p face) tape next
   unfolding run_at after_draw
   run_face face next e = rw e
 
-  pub run_ended : draw_at m tape at ≡ Ended → run_at (draw m p) tape at ≡ ended
+  pub run_ended : draw_at m tape at ≡ None → run_at (draw m p) tape at ≡ ended
   unfolding run_at after_draw
   run_ended e = rw e
 
@@ -28,10 +27,10 @@ unfolding run_at after_draw after_run ◌>>=◌
 run_bind (done a) k tape at = refl
 run_bind (draw m p) k tape at = go (draw_at m tape at) (λ f n. run_bind (p f) k tape n)
   where
-    go : (d : Drawn) → ((f n : ℕ) → run_at (p f >>= k) tape n ≡ after_run (run_at (p f) tape n) (λ a next. run_at (k a) tape next))
+    go : (d : Option Drawn) → ((f n : ℕ) → run_at (p f >>= k) tape n ≡ after_run (run_at (p f) tape n) (λ a next. run_at (k a) tape next))
         → after_draw d (λ f n. run_at (p f >>= k) tape n) ≡ after_run (after_draw d (λ f n. run_at (p f) tape n)) (λ a next. run_at (k a) tape next)
-    go (Face f n) ih = ih f n
-    go Ended ih = refl
+    go (Some d) ih = ih d.face d.next
+    go None ih = refl
 
 -- A course ends with a value that the program can end with.
 pub follows_ends : {A : Type 0} (R : A → Type 0) (p : Program A) (faces : List ℕ) (a : A) → Ends R p → Follows p faces a → R a
@@ -49,12 +48,12 @@ run_follows (done b) tape at a next e = cc
 run_follows {A} (draw m p) tape at a next e =
     go (draw_at m tape at) (λ f n. draw_sound m tape at f n) (λ f n. run_follows (p f) tape n a next) e
   where
-    go : (d : Drawn) → ((f n : ℕ) → d ≡ Face f n → Sound m at f n)
+    go : (d : Option Drawn) → ((f n : ℕ) → d ≡ face_at f n → Sound m at f n)
         → ((f n : ℕ) → run_at (p f) tape n ≡ ran a next → Follows (p f) (faces_on (p f) tape n) a)
         → after_draw d (λ f n. run_at (p f) tape n) ≡ ran a next
         → Follows (draw m p) (faces_after d (λ f n. faces_on (p f) tape n)) a
-    go (Face f n) sound ih e = ((sound f n refl).below, ih f n e)
-    go Ended sound ih e = let z : ◌≡◌ {A = ℕ} 0 1 = cc in absurd (omega arith)
+    go (Some d) sound ih e = ((sound d.face d.next refl).below, ih d.face d.next e)
+    go None sound ih e = let z : ◌≡◌ {A = ℕ} 0 1 = cc in absurd (omega arith)
 
 -- A finished run ends with a value that the program can end with.
 pub run_ends : {A : Type 0} (R : A → Type 0) (p : Program A) (tape : List ℕ) (at : ℕ) (a : A) (next : ℕ)
@@ -69,8 +68,8 @@ run_within (done b) tape at l a next e = let same : at ≡ next = cc in omega ar
 run_within {A} (draw m p) tape at l a next e =
     go (draw_at m tape at) (draw_within m tape at l) (λ f n h. run_within (p f) tape n h a next) e
   where
-    go : (d : Drawn) → ((f n : ℕ) → d ≡ Face f n → n ≤ length tape)
+    go : (d : Option Drawn) → ((f n : ℕ) → d ≡ face_at f n → n ≤ length tape)
         → ((f n : ℕ) → n ≤ length tape → run_at (p f) tape n ≡ ran a next → next ≤ length tape)
         → after_draw d (λ f n. run_at (p f) tape n) ≡ ran a next → next ≤ length tape
-    go (Face f n) within ih e = ih f n (within f n refl) e
-    go Ended within ih e = let z : ◌≡◌ {A = ℕ} 0 1 = cc in absurd (omega arith)
+    go (Some d) within ih e = ih d.face d.next (within d.face d.next refl) e
+    go None within ih e = let z : ◌≡◌ {A = ℕ} 0 1 = cc in absurd (omega arith)

@@ -1,8 +1,7 @@
 -- How many runs of words decide a course of a program (document 01, "Coins" and "Histories and shares"). Definitions only.
-use Rattle.std.specs.Prelude.{Bool, true, false, ◌&&◌, List, [], ◌∷◌, ℕ, ◌+◌, ◌-◌, ◌*◌}
+use Rattle.std.specs.Prelude.{Bool, true, false, ◌&&◌, List, [], ◌∷◌, ℕ, ◌+◌, ◌-◌, ◌*◌, Option, Some, None}
 use Rattle.base.specs.Lists.{total}
 use Rattle.draw.specs.declared.Drawn.{Drawn}
-use Rattle.draw.specs.declared.Drawn.TheVariants.{Face, Ended}
 use Rattle.draw.specs.Draw.{draw_from, draw_at}
 use Rattle.draw.specs.Runs.{runs, gives, face_runs, draw_runs}
 use Rattle.draw_shares.specs.Program.{Program, done, draw}
@@ -44,9 +43,9 @@ among_runs W [] (k ∷ numbers) = 0
 among_runs W (m ∷ ms) [] = 0
 among_runs W (m ∷ ms) (k ∷ numbers) = draw_runs W m k * among_runs W ms numbers
 
-unfoldable pub numbers_after : ℕ → Drawn → (ℕ → ℕ → List ℕ) → List ℕ
-numbers_after at (Face face next) k = (next - at) ∷ k face next
-numbers_after at Ended k = []
+unfoldable pub numbers_after : ℕ → Option Drawn → (ℕ → ℕ → List ℕ) → List ℕ
+numbers_after at (Some d) k = (d.next - at) ∷ k d.face d.next
+numbers_after at None k = []
 
 -- The numbers of words of the tape that the draws of a program read, in their order.
 unfoldable pub numbers_on : {A : Type 0} → Program A → List ℕ → ℕ → List ℕ

@@ -8,22 +8,21 @@ ghost use Rattle.call_outcomes.specs.PlainCalls as call;
 ghost use Rattle.call_outcomes.specs.Plain.{plain, plain_store_of, plain_outcome_of};
 ghost use Rattle.call_outcomes.specs.Federation.{federation};
 
-use call_open::Opened;
 use call_outcomes::{Answer, Cause};
 use tree_rules::Change;
 
 // Makes any contents the empty sheet.
-pub fn clear(slots: &mut [u64], counts: &mut [u32], tallies: &mut [u32]) -> Answer
+pub fn clear(slots: &mut [u64], counts: &mut [u32], tallies: &mut [u32]) -> Result<Answer, Cause>
     ensures { plain_outcome_of result slots.new counts.new tallies.new []
         ≡ outcome (plain federation) clear [] (plain_store_of slots.old counts.old tallies.old) [] }
 {
     if !federation_store::right_lengths(slots.len(), counts.len(), tallies.len()) {
-        return Answer::Refused(Cause::Lengths);
+        return Err(Cause::Lengths);
     }
     store_slices::zero_slots(slots, 0, 208896);
     store_counts::zero_counts(counts);
     store_counts::zero_counts(tallies);
-    Answer::Cleared
+    Ok(Answer::Cleared)
 }
 
 // Makes the change of the list, with the entry of an insert.
@@ -34,31 +33,30 @@ pub fn make_change(
     change: Change,
     entry: u64,
     tape: &[u32],
-) -> Answer
+) -> Result<Answer, Cause>
     ensures { plain_outcome_of result slots.new counts.new tallies.new []
         ≡ outcome (plain federation) (call.changing change entry) tape.now (plain_store_of slots.old counts.old tallies.old) [] }
 {
     let mut work = [0u32; 8192];
     let mut numbers = [0u32; 8192];
     let opened = federation_store::examine(slots, counts, tallies, &mut work, &mut numbers);
-    match call_open::admit_change(opened, 65536, change, entry) {
-        Opened::Sheet { n, m } => {
-            let made = federation_change::make(
-                slots,
-                counts,
-                tallies,
-                &mut work,
-                &mut numbers,
-                n,
-                m,
-                change,
-                entry,
-                tape,
-            );
-            made.answer()
-        }
-        Opened::Refused(cause) => Answer::Refused(cause),
-    }
+    let sheet = call_open::admit_change(opened, 65536, change, entry)?;
+    let made = federation_change::make(
+        slots,
+        counts,
+        tallies,
+        &mut work,
+        &mut numbers,
+        sheet,
+        change,
+        entry,
+        tape,
+    )
+    .ok_or(Cause::TapeEnded)?;
+    Ok(Answer::Changed {
+        n: made.n,
+        words: made.words,
+    })
 }
 
 // Puts the entry in at the rank.
@@ -69,7 +67,7 @@ pub fn insert(
     rank: usize,
     entry: u64,
     tape: &[u32],
-) -> Answer
+) -> Result<Answer, Cause>
     ensures { plain_outcome_of result slots.new counts.new tallies.new []
         ≡ outcome (plain federation) (call.insert rank entry) tape.now (plain_store_of slots.old counts.old tallies.old) [] }
 {
@@ -83,7 +81,7 @@ pub fn delete(
     tallies: &mut [u32],
     rank: usize,
     tape: &[u32],
-) -> Answer
+) -> Result<Answer, Cause>
     ensures { plain_outcome_of result slots.new counts.new tallies.new []
         ≡ outcome (plain federation) (call.delete rank) tape.now (plain_store_of slots.old counts.old tallies.old) [] }
 {
@@ -98,7 +96,7 @@ pub fn read(
     first: usize,
     last: usize,
     output: &mut [u64],
-) -> Answer
+) -> Result<Answer, Cause>
     ensures { plain_outcome_of result slots.now counts.now tallies.now output.new
         ≡ outcome (plain federation) (call.read first last (length output.old)) [] (plain_store_of slots.now counts.now tallies.now) output.old }
 {
@@ -109,7 +107,7 @@ pub fn read(
 }
 
 // The place of the entry at the rank: that of her tied group, the sum of its places and the number of its boats; a retired boat has none.
-pub fn place(slots: &[u64], counts: &[u32], tallies: &[u32], rank: usize) -> Answer
+pub fn place(slots: &[u64], counts: &[u32], tallies: &[u32], rank: usize) -> Result<Answer, Cause>
     ensures { plain_outcome_of result slots.now counts.now tallies.now []
         ≡ outcome (plain federation) (call.place rank) [] (plain_store_of slots.now counts.now tallies.now) [] }
 {
@@ -120,7 +118,7 @@ pub fn place(slots: &[u64], counts: &[u32], tallies: &[u32], rank: usize) -> Ans
 }
 
 // The number of entries of a sheet.
-pub fn check(slots: &[u64], counts: &[u32], tallies: &[u32]) -> Answer
+pub fn check(slots: &[u64], counts: &[u32], tallies: &[u32]) -> Result<Answer, Cause>
     ensures { plain_outcome_of result slots.now counts.now tallies.now []
         ≡ outcome (plain federation) call.check [] (plain_store_of slots.now counts.now tallies.now) [] }
 {
@@ -137,7 +135,7 @@ pub fn board(
     tallies: &[u32],
     ranks: &[u64],
     output: &mut [u64],
-) -> Answer
+) -> Result<Answer, Cause>
     ensures { plain_outcome_of result slots.now counts.now tallies.now output.new
         ≡ outcome (plain federation) (call.board ranks.now (length output.old)) [] (plain_store_of slots.now counts.now tallies.now) output.old }
 {

@@ -15,32 +15,10 @@ ghost use Rattle.sheet_change.specs.Made.{answer_to, MadeIn};
 ghost use Rattle.sheet_change.specs.PlainReady.{PlainReady};
 
 use call_change::DrawnChange;
+use call_open::Opened;
 use sheet_change::Made;
 use tree_rules::Change;
 use tree_sizes::Size;
-use tree_walk::Updated;
-
-// Writes a drawn change whose part has at most 8,191 entries after it: 8,194 entries are room enough in the list.
-fn write_by_wide_list(slots: &mut [u64], counts: &mut [u32], work: &[u32], drawn: DrawnChange)
-    requires ready { WriteReady drawn (store_of slots.old counts.old) work.now }
-    requires few { get_or work.now drawn.part.range 0 ≤ 8191 }
-    ensures { store_of slots.new counts.new
-        ≡ written drawn work.now (store_of slots.old counts.old) }
-{
-    let mut list = [0u64; 8194];
-    call_change::write_change(slots, counts, work, &mut list, drawn);
-}
-
-// Writes a drawn change whose part has at most 65,536 entries before it, as many as a whole sheet has.
-fn write_by_whole_list(slots: &mut [u64], counts: &mut [u32], work: &[u32], drawn: DrawnChange)
-    requires ready { WriteReady drawn (store_of slots.old counts.old) work.now }
-    requires most { length (entries_before drawn slots.old) ≤ 65536 }
-    ensures { store_of slots.new counts.new
-        ≡ written drawn work.now (store_of slots.old counts.old) }
-{
-    let mut list = [0u64; 65538];
-    call_change::write_change(slots, counts, work, &mut list, drawn);
-}
 
 // Writes a drawn change whose part has at most 65,536 entries before it. A long list takes more time to make than a small part to lay out, so it is
 // made only where the part needs it.
@@ -50,61 +28,59 @@ fn write_drawn(slots: &mut [u64], counts: &mut [u32], work: &[u32], drawn: Drawn
     ensures { store_of slots.new counts.new
         ≡ written drawn work.now (store_of slots.old counts.old) }
 {
-    let part = drawn.part;
-    let range = part.range;
-    let count = store_layout::count_at(work, range);
+    let count = store_layout::count_at(work, drawn.part.range);
     if count <= 1023 {
         sheet_change::write_small(slots, counts, work, drawn);
     } else if count <= 8191 {
-        write_by_wide_list(slots, counts, work, drawn);
+        call_change::write_by_list::<8194>(slots, counts, work, drawn);
     } else {
-        write_by_whole_list(slots, counts, work, drawn);
+        call_change::write_by_list::<65538>(slots, counts, work, drawn);
     }
 }
 
-// Makes the change of a sheet of n entries with the size parameter m, whose counts the work array has by range number, and `numbers` its tallies.
-// Everything is drawn in the work array; the slices are written only after that, the tallies last.
+// Makes the change of the sheet that the store was found to hold, whose counts the work array has by range number, and `numbers` its tallies.
+// Everything is drawn in the work array; the slices are written only after that, the tallies last. Where the tape ends nothing is written, and
+// nothing made.
 pub fn make(
     slots: &mut [u64],
     counts: &mut [u32],
     tallies: &mut [u32],
     work: &mut [u32],
     numbers: &mut [u32],
-    n: usize,
-    m: usize,
+    sheet: Opened,
     change: Change,
     entry: u64,
     tape: &[u32],
-) -> Made
-    requires sheet { PlainReady federation change entry n m (plain_store_of slots.old counts.old tallies.old) work.old }
-    requires tallied { numbers.old ≡ number_order (height m) tallies.old }
+) -> Option<Made>
+    requires sheet { PlainReady federation change entry sheet.n sheet.m (plain_store_of slots.old counts.old tallies.old) work.old }
+    requires tallied { numbers.old ≡ number_order (height sheet.m) tallies.old }
     ensures { (plain_outcome_of (answer_to result) slots.new counts.new tallies.new []
         ≡ outcome (plain federation) (changing change entry) tape.now (plain_store_of slots.old counts.old tallies.old) [])
-        × MadeIn m slots.old result slots.new counts.new }
+        × MadeIn sheet.m slots.old result slots.new counts.new }
 {
-    let after = tree_counts::count_after(change, n);
-    match tree_update::update(change, n, m, work, tape) {
-        Updated::Done {
-            m: size,
-            part,
-            next,
-        } => {
-            let drawn = DrawnChange {
-                old: m,
-                new: size,
-                part: part,
-                change: change,
-                entry: entry,
-            };
-            write_drawn(slots, counts, work, drawn);
-            call_tallies::write_tallies(Size { m: size }, part, slots, work, tallies, numbers);
-            Made::Done {
-                n: after,
-                words: next,
-                m: size,
-                part: part,
-            }
-        }
-        Updated::Ended => Made::Ended,
-    }
+    let Opened { n, m } = sheet;
+    let after = change.count_after(n);
+    let updated = tree_update::update(change, n, m, work, tape)?;
+    let drawn = DrawnChange {
+        old: m,
+        new: updated.m,
+        part: updated.part,
+        change: change,
+        entry: entry,
+    };
+    write_drawn(slots, counts, work, drawn);
+    call_tallies::write_tallies(
+        Size { m: updated.m },
+        updated.part,
+        slots,
+        work,
+        tallies,
+        numbers,
+    );
+    Some(Made {
+        n: after,
+        words: updated.next,
+        m: updated.m,
+        part: updated.part,
+    })
 }

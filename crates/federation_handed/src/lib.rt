@@ -27,7 +27,7 @@ pub fn clear(
         return 255;
     }
     call_handed::hand(
-        federation_calls::clear(slots, counts, tallies).returned(),
+        federation_calls::clear(slots, counts, tallies).into(),
         2,
         answer,
     )
@@ -50,7 +50,7 @@ pub fn make_change(
         return 255;
     }
     call_handed::hand(
-        federation_calls::make_change(slots, counts, tallies, change, entry, tape).returned(),
+        federation_calls::make_change(slots, counts, tallies, change, entry, tape).into(),
         2,
         answer,
     )
@@ -73,7 +73,7 @@ pub fn read(
         return 255;
     }
     call_handed::hand(
-        federation_calls::read(slots, counts, tallies, first, last, output).returned(),
+        federation_calls::read(slots, counts, tallies, first, last, output).into(),
         2,
         answer,
     )
@@ -94,7 +94,7 @@ pub fn place(
         return 255;
     }
     call_handed::hand(
-        federation_calls::place(slots, counts, tallies, rank).returned(),
+        federation_calls::place(slots, counts, tallies, rank).into(),
         3,
         answer,
     )
@@ -109,7 +109,7 @@ pub fn check(slots: &[u64], counts: &[u32], tallies: &[u32], answer: &mut [u64])
         return 255;
     }
     call_handed::hand(
-        federation_calls::check(slots, counts, tallies).returned(),
+        federation_calls::check(slots, counts, tallies).into(),
         2,
         answer,
     )
@@ -131,7 +131,7 @@ pub fn board(
         return 255;
     }
     call_handed::hand(
-        federation_calls::board(slots, counts, tallies, ranks, output).returned(),
+        federation_calls::board(slots, counts, tallies, ranks, output).into(),
         2,
         answer,
     )
@@ -147,7 +147,7 @@ pub fn mend(slots: &[u64], counts: &mut [u32], tallies: &mut [u32], answer: &mut
         return 255;
     }
     call_handed::hand(
-        federation_mend::mend(slots, counts, tallies).returned(),
+        federation_mend::mend(slots, counts, tallies).into(),
         2,
         answer,
     )

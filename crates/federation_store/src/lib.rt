@@ -7,6 +7,7 @@ ghost use Rattle.call_outcomes.specs.Federation.{federation};
 ghost use Rattle.sheet_open.specs.PlainOpening.{PlainOpening};
 
 use call_open::Opened;
+use call_outcomes::Cause;
 use store_layout::Capacity;
 
 // What the federation's store has room for.
@@ -35,7 +36,7 @@ pub fn examine(
     tallies: &[u32],
     work: &mut [u32],
     numbers: &mut [u32],
-) -> Opened
+) -> Result<Opened, Cause>
     requires work { length work.old ≡ 8192 }
     requires numbers { length numbers.old ≡ 8192 }
     ensures { PlainOpening federation (plain_store_of slots.now counts.now tallies.now) result work.new numbers.new }

@@ -13,7 +13,6 @@ ghost use Rattle.timed_answers.specs.RankedReady.{RankedReady};
 
 use call_open::Opened;
 use call_outcomes::{Answer, Cause};
-use sheet_change::Made;
 use tree_rules::Change;
 use tree_sizes::Size;
 
@@ -25,14 +24,14 @@ pub fn examine(
     balance: &[u64],
     work: &mut [u32],
     numbers: &mut [u32],
-) -> Opened
+) -> Result<Opened, Cause>
     requires work { length work.old ≡ 8192 }
     requires numbers { length numbers.old ≡ 8192 }
     ensures { TimedOpening federation (timed_store_of slots.now counts.now tallies.now balance.now) result
         work.new numbers.new }
 {
     if balance.len() != 8192 {
-        return Opened::Refused(Cause::Lengths);
+        return Err(Cause::Lengths);
     }
     let opened = federation_store::examine(slots, counts, tallies, work, numbers);
     let mut right = [0u64; 8192];
@@ -48,33 +47,24 @@ pub fn change(
     balance: &mut [u64],
     work: &mut [u32],
     numbers: &mut [u32],
-    n: usize,
-    m: usize,
+    sheet: Opened,
     change: Change,
     entry: u64,
     tape: &[u32],
-) -> Answer
-    requires sheet { RankedReady federation change entry n m (timed_store_of slots.old counts.old tallies.old balance.old) work.old }
-    requires tallied { numbers.old ≡ number_order (height m) tallies.old }
+) -> Result<Answer, Cause>
+    requires sheet { RankedReady federation change entry sheet.n sheet.m (timed_store_of slots.old counts.old tallies.old balance.old) work.old }
+    requires tallied { numbers.old ≡ number_order (height sheet.m) tallies.old }
     ensures { timed_outcome_of result slots.new counts.new tallies.new balance.new []
         ≡ outcome (ranked federation) (changing change entry) tape.now
         (timed_store_of slots.old counts.old tallies.old balance.old) [] }
 {
-    match federation_change::make(
-        slots, counts, tallies, work, numbers, n, m, change, entry, tape,
-    ) {
-        Made::Done {
-            n: after,
-            words,
-            m: size,
-            part,
-        } => {
-            store_balance_part::write_part(Size { m: size }, part, slots, balance);
-            Answer::Changed {
-                n: after,
-                words: words,
-            }
-        }
-        Made::Ended => Answer::Refused(Cause::TapeEnded),
-    }
+    let made = federation_change::make(
+        slots, counts, tallies, work, numbers, sheet, change, entry, tape,
+    )
+    .ok_or(Cause::TapeEnded)?;
+    store_balance_part::write_part(Size { m: made.m }, made.part, slots, balance);
+    Ok(Answer::Changed {
+        n: made.n,
+        words: made.words,
+    })
 }

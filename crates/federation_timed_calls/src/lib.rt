@@ -8,7 +8,6 @@ ghost use Rattle.call_outcomes.specs.Federation.{federation};
 ghost use Rattle.call_timed.specs.Timed as call;
 ghost use Rattle.call_timed.specs.Timed.{timed, timed_store_of, timed_outcome_of};
 
-use call_open::Opened;
 use call_outcomes::{Answer, Cause};
 use tree_sizes::Size;
 
@@ -18,40 +17,48 @@ pub fn clear(
     counts: &mut [u32],
     tallies: &mut [u32],
     balance: &mut [u64],
-) -> Answer
+) -> Result<Answer, Cause>
     ensures { timed_outcome_of result slots.new counts.new tallies.new balance.new []
         ≡ outcome (timed federation) clear [] (timed_store_of slots.old counts.old tallies.old balance.old) [] }
 {
     let cap = federation_store::capacity();
     if !timed_open::right_lengths(cap, slots.len(), counts.len(), tallies.len(), balance.len()) {
-        return Answer::Refused(Cause::Lengths);
+        return Err(Cause::Lengths);
     }
     store_slices::zero_slots(slots, 0, 208896);
     store_counts::zero_counts(counts);
     store_counts::zero_counts(tallies);
     store_slices::zero_slots(balance, 0, 8192);
-    Answer::Cleared
+    Ok(Answer::Cleared)
 }
 
 // The rank of the entry, or that it is not there and the rank at which it would stand.
-pub fn find(slots: &[u64], counts: &[u32], tallies: &[u32], balance: &[u64], entry: u64) -> Answer
+pub fn find(
+    slots: &[u64],
+    counts: &[u32],
+    tallies: &[u32],
+    balance: &[u64],
+    entry: u64,
+) -> Result<Answer, Cause>
     ensures { timed_outcome_of result slots.now counts.now tallies.now balance.now []
         ≡ outcome (timed federation) (call.find entry) [] (timed_store_of slots.now counts.now tallies.now balance.now) [] }
 {
     let mut work = [0u32; 8192];
     let mut numbers = [0u32; 8192];
-    match federation_timed::examine(slots, counts, tallies, balance, &mut work, &mut numbers) {
-        Opened::Sheet { n: _, m } => {
-            if store_keys::key(entry) == 0 {
-                return Answer::Refused(Cause::EntryZero);
-            }
-            let sought = store_search::search(Size { m: m }, slots, &work, balance, entry);
-            if sought.present {
-                return Answer::Present { rank: sought.rank };
-            }
-            Answer::Absent { rank: sought.rank }
-        }
-        Opened::Refused(cause) => Answer::Refused(cause),
+    let sheet = federation_timed::examine(
+        slots,
+        counts,
+        tallies,
+        balance,
+        &mut work,
+        &mut numbers,
+    )?;
+    if store_keys::key(entry) == 0 {
+        return Err(Cause::EntryZero);
+    }
+    match store_search::search(Size { m: sheet.m }, slots, &work, balance, entry) {
+        Ok(rank) => Ok(Answer::Present { rank: rank }),
+        Err(rank) => Ok(Answer::Absent { rank: rank }),
     }
 }
 
@@ -64,7 +71,7 @@ pub fn read(
     first: usize,
     last: usize,
     output: &mut [u64],
-) -> Answer
+) -> Result<Answer, Cause>
     ensures { timed_outcome_of result slots.now counts.now tallies.now balance.now output.new
         ≡ outcome (timed federation) (call.read first last (length output.old)) []
         (timed_store_of slots.now counts.now tallies.now balance.now) output.old }
@@ -83,7 +90,13 @@ pub fn read(
 }
 
 // The place of the entry at the rank: that of her tied group, the sum of its places and the number of its boats; a retired boat has none.
-pub fn place(slots: &[u64], counts: &[u32], tallies: &[u32], balance: &[u64], rank: usize) -> Answer
+pub fn place(
+    slots: &[u64],
+    counts: &[u32],
+    tallies: &[u32],
+    balance: &[u64],
+    rank: usize,
+) -> Result<Answer, Cause>
     ensures { timed_outcome_of result slots.now counts.now tallies.now balance.now []
         ≡ outcome (timed federation) (call.place rank) [] (timed_store_of slots.now counts.now tallies.now balance.now) [] }
 {
@@ -101,7 +114,12 @@ pub fn place(slots: &[u64], counts: &[u32], tallies: &[u32], balance: &[u64], ra
 }
 
 // The number of entries of a sheet.
-pub fn check(slots: &[u64], counts: &[u32], tallies: &[u32], balance: &[u64]) -> Answer
+pub fn check(
+    slots: &[u64],
+    counts: &[u32],
+    tallies: &[u32],
+    balance: &[u64],
+) -> Result<Answer, Cause>
     ensures { timed_outcome_of result slots.now counts.now tallies.now balance.now []
         ≡ outcome (timed federation) call.check [] (timed_store_of slots.now counts.now tallies.now balance.now) [] }
 {
@@ -126,7 +144,7 @@ pub fn board(
     balance: &[u64],
     ranks: &[u64],
     output: &mut [u64],
-) -> Answer
+) -> Result<Answer, Cause>
     ensures { timed_outcome_of result slots.now counts.now tallies.now balance.now output.new
         ≡ outcome (timed federation) (call.board ranks.now (length output.old)) []
         (timed_store_of slots.now counts.now tallies.now balance.now) output.old }

@@ -7,7 +7,6 @@ ghost use Rattle.call_outcomes.specs.Federation.{federation};
 ghost use Rattle.call_timed.specs.Timed as call;
 ghost use Rattle.call_timed.specs.Timed.{timed, timed_store_of, timed_outcome_of};
 
-use call_open::Opened;
 use call_outcomes::{Answer, Cause};
 use tree_rules::Change;
 use tree_sizes::Size;
@@ -20,25 +19,30 @@ pub fn insert(
     balance: &mut [u64],
     entry: u64,
     tape: &[u32],
-) -> Answer
+) -> Result<Answer, Cause>
     ensures { timed_outcome_of result slots.new counts.new tallies.new balance.new []
         ≡ outcome (timed federation) (call.insert entry) tape.now (timed_store_of slots.old counts.old tallies.old balance.old) [] }
 {
     let mut work = [0u32; 8192];
     let mut numbers = [0u32; 8192];
-    match federation_timed::examine(slots, counts, tallies, balance, &mut work, &mut numbers) {
-        Opened::Sheet { n, m } => {
-            if store_keys::key(entry) == 0 {
-                return Answer::Refused(Cause::EntryZero);
+    let sheet = federation_timed::examine(
+        slots,
+        counts,
+        tallies,
+        balance,
+        &mut work,
+        &mut numbers,
+    )?;
+    if store_keys::key(entry) == 0 {
+        return Err(Cause::EntryZero);
+    }
+    match store_search::search(Size { m: sheet.m }, slots, &work, balance, entry) {
+        Ok(_) => Err(Cause::EntryPresent),
+        Err(rank) => {
+            if 65536 <= sheet.n {
+                return Err(Cause::Full);
             }
-            let sought = store_search::search(Size { m: m }, slots, &work, balance, entry);
-            if sought.present {
-                return Answer::Refused(Cause::EntryPresent);
-            }
-            if 65536 <= n {
-                return Answer::Refused(Cause::Full);
-            }
-            let change = Change::Insert(sought.rank);
+            let change = Change::Insert(rank);
             federation_timed::change(
                 slots,
                 counts,
@@ -46,14 +50,12 @@ pub fn insert(
                 balance,
                 &mut work,
                 &mut numbers,
-                n,
-                m,
+                sheet,
                 change,
                 entry,
                 tape,
             )
         }
-        Opened::Refused(cause) => Answer::Refused(cause),
     }
 }
 
@@ -65,7 +67,7 @@ pub fn delete(
     balance: &mut [u64],
     rank: usize,
     tape: &[u32],
-) -> Answer
+) -> Result<Answer, Cause>
     ensures { timed_outcome_of result slots.new counts.new tallies.new balance.new []
         ≡ outcome (timed federation) (call.delete rank) tape.now (timed_store_of slots.old counts.old tallies.old balance.old) [] }
 {
@@ -79,23 +81,18 @@ pub fn delete(
         &mut work,
         &mut numbers,
     );
-    match call_open::admit_rank(opened, rank) {
-        Opened::Sheet { n, m } => {
-            let change = Change::Delete(rank);
-            federation_timed::change(
-                slots,
-                counts,
-                tallies,
-                balance,
-                &mut work,
-                &mut numbers,
-                n,
-                m,
-                change,
-                0,
-                tape,
-            )
-        }
-        Opened::Refused(cause) => Answer::Refused(cause),
-    }
+    let sheet = call_open::admit_rank(opened, rank)?;
+    let change = Change::Delete(rank);
+    federation_timed::change(
+        slots,
+        counts,
+        tallies,
+        balance,
+        &mut work,
+        &mut numbers,
+        sheet,
+        change,
+        0,
+        tape,
+    )
 }

@@ -26,7 +26,7 @@ pub fn clear(
         return 255;
     }
     call_handed::hand(
-        federation_timed_calls::clear(slots, counts, tallies, balance).returned(),
+        federation_timed_calls::clear(slots, counts, tallies, balance).into(),
         2,
         answer,
     )
@@ -49,7 +49,7 @@ pub fn insert(
         return 255;
     }
     call_handed::hand(
-        federation_timed_changes::insert(slots, counts, tallies, balance, entry, tape).returned(),
+        federation_timed_changes::insert(slots, counts, tallies, balance, entry, tape).into(),
         2,
         answer,
     )
@@ -72,7 +72,7 @@ pub fn delete(
         return 255;
     }
     call_handed::hand(
-        federation_timed_changes::delete(slots, counts, tallies, balance, rank, tape).returned(),
+        federation_timed_changes::delete(slots, counts, tallies, balance, rank, tape).into(),
         2,
         answer,
     )
@@ -94,7 +94,7 @@ pub fn find(
         return 255;
     }
     call_handed::hand(
-        federation_timed_calls::find(slots, counts, tallies, balance, entry).returned(),
+        federation_timed_calls::find(slots, counts, tallies, balance, entry).into(),
         2,
         answer,
     )
@@ -118,9 +118,7 @@ pub fn read(
         return 255;
     }
     call_handed::hand(
-        federation_timed_calls::read(
-            slots, counts, tallies, balance, first, last, output,
-        ).returned(),
+        federation_timed_calls::read(slots, counts, tallies, balance, first, last, output).into(),
         2,
         answer,
     )
@@ -142,7 +140,7 @@ pub fn place(
         return 255;
     }
     call_handed::hand(
-        federation_timed_calls::place(slots, counts, tallies, balance, rank).returned(),
+        federation_timed_calls::place(slots, counts, tallies, balance, rank).into(),
         3,
         answer,
     )
@@ -163,7 +161,7 @@ pub fn check(
         return 255;
     }
     call_handed::hand(
-        federation_timed_calls::check(slots, counts, tallies, balance).returned(),
+        federation_timed_calls::check(slots, counts, tallies, balance).into(),
         2,
         answer,
     )
@@ -186,7 +184,7 @@ pub fn board(
         return 255;
     }
     call_handed::hand(
-        federation_timed_calls::board(slots, counts, tallies, balance, ranks, output).returned(),
+        federation_timed_calls::board(slots, counts, tallies, balance, ranks, output).into(),
         2,
         answer,
     )
@@ -208,7 +206,7 @@ pub fn mend(
         return 255;
     }
     call_handed::hand(
-        federation_timed_mend::mend(slots, counts, tallies, balance).returned(),
+        federation_timed_mend::mend(slots, counts, tallies, balance).into(),
         2,
         answer,
     )

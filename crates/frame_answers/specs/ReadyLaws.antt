@@ -1,5 +1,5 @@
 -- The tape stays ready from line to line.
-use Rattle.std.specs.Prelude.{◌≡◌, List, [], ◌++◌, ℕ, ◌+◌, ◌-◌, ◌≤◌, length, take, drop}
+use Rattle.std.specs.Prelude.{Option, Some, None, ◌≡◌, List, [], ◌++◌, ℕ, ◌+◌, ◌-◌, ◌≤◌, length, take, drop}
 use Rattle.std.proofs.Common.{◌∙◌, arith, length-drop, length-append, length-take-le}
 use Rattle.base.specs.CaseLaws.{by_lt}
 use Rattle.call_outcomes.specs.PlainCalls.{insert_at, delete_at}
@@ -7,7 +7,7 @@ use Rattle.call_outcomes.specs.Plain.{plain, PlainStore}
 use Rattle.call_outcomes.specs.Clubs.{clubs}
 use Rattle.call_outcomes.specs.AnswerLaws.{words_within}
 use Rattle.frame_lines.specs.declared.Frame.{Frame}
-use Rattle.frame_lines.specs.declared.Frame.TheVariants.{Insert, Delete, Read, Tape, Print, Clear, Place, NoFrame}
+use Rattle.frame_lines.specs.declared.Frame.TheVariants.{Insert, Delete, Read, Tape, Print, Clear, Place}
 use Rattle.frame_tape.specs.Tape.{most_waiting, read_off, line_words}
 use Rattle.frame_tape.specs.TapeLaws.{length_read_off, length_words}
 use Rattle.frame_answers.specs.Step.{Kept, TapeReady, Answered, keeping, changed_by, changed, cleared, taped, answer_to}
@@ -41,17 +41,17 @@ taped_ready line words k t room =
       t.room,
     )
 
-pub tape_ready : (frame : Frame) (line : List ℕ) (k : Kept) → TapeReady k → TapeReady (answer_to frame line k).kept
+pub tape_ready : (frame : Option Frame) (line : List ℕ) (k : Kept) → TapeReady k → TapeReady (answer_to frame line k).kept
 unfolding answer_to changed changed_by keeping cleared taped
-tape_ready (Insert rank entry) line k t =
+tape_ready (Some (Insert rank entry)) line k t =
     read_ready t _ _ (words_within (plain clubs) (insert_at rank entry) (take k.waiting k.tape) k.store [])
-tape_ready (Delete rank) line k t =
+tape_ready (Some (Delete rank)) line k t =
     read_ready t _ _ (words_within (plain clubs) (delete_at rank) (take k.waiting k.tape) k.store [])
-tape_ready (Read first last) line k t = t
-tape_ready (Tape words) line k t =
+tape_ready (Some (Read first last)) line k t = t
+tape_ready (Some (Tape words)) line k t =
     by_lt (λ (a : Answered). TapeReady a.kept) most_waiting (k.waiting + words) _ _ (λ _. t)
     (λ room. record { room = taped_ready line words k t room; few = room })
-tape_ready Print line k t = t
-tape_ready Clear line k t = record { room = t.room; few = t.few }
-tape_ready (Place rank) line k t = t
-tape_ready NoFrame line k t = t
+tape_ready (Some Print) line k t = t
+tape_ready (Some Clear) line k t = record { room = t.room; few = t.few }
+tape_ready (Some (Place rank)) line k t = t
+tape_ready None line k t = t

@@ -1,5 +1,5 @@
 -- What the program answers to a line, and what it keeps (document 01, "Frames"). Definitions only.
-use Rattle.std.specs.Prelude.{◌≡◌, List, [], ◌∷◌, ◌++◌, ℕ, zero, suc, ◌+◌, ◌-◌, ◌*◌, ◌^◌, ◌≤◌, length, get_or, take, drop, replicate}
+use Rattle.std.specs.Prelude.{Option, Some, None, ◌≡◌, List, [], ◌∷◌, ◌++◌, ℕ, zero, suc, ◌+◌, ◌-◌, ◌*◌, ◌^◌, ◌≤◌, length, get_or, take, drop, replicate}
 use Rattle.base.specs.Cases.{if_eq, if_lt}
 use Rattle.tree_sizes.specs.Sizes.{height, leaf_slots}
 use Rattle.store_layout.specs.Layout.{Store}
@@ -14,7 +14,7 @@ use Rattle.call_outcomes.specs.PlainCalls.{insert, delete, read, place, check}
 use Rattle.call_outcomes.specs.Plain.{plain, PlainStore}
 use Rattle.call_outcomes.specs.Clubs.{clubs, zeros}
 use Rattle.frame_lines.specs.declared.Frame.{Frame}
-use Rattle.frame_lines.specs.declared.Frame.TheVariants.{Insert, Delete, Read, Tape, Print, Clear, Place, NoFrame}
+use Rattle.frame_lines.specs.declared.Frame.TheVariants.{Insert, Delete, Read, Tape, Print, Clear, Place}
 use Rattle.frame_lines.specs.Frame.{frame_of}
 use Rattle.frame_tape.specs.Tape.{most_waiting, read_off, line_words}
 use Rattle.frame_replies.specs.Reply.{Reply, brief, entries, placed, sheet, leaf, bytes_of}
@@ -133,18 +133,18 @@ print_lines o store = print_replies (returned o.answer).number store
 
 -- What a frame is answered by. The first byte of an answer is the frame's plus 80 in hexadecimal: 129 to 135; 255 and cause 8 answer
 -- a line that is no frame. A read has room for 64 entries.
-unfoldable pub answer_to : Frame → List ℕ → Kept → Answered
-answer_to (Insert rank entry) line k = changed 129 k (outcome (plain clubs) (insert rank entry) (take k.waiting k.tape) k.store [])
-answer_to (Delete rank) line k = changed 130 k (outcome (plain clubs) (delete rank) (take k.waiting k.tape) k.store [])
-answer_to (Read first last) line k =
+unfoldable pub answer_to : Option Frame → List ℕ → Kept → Answered
+answer_to (Some (Insert rank entry)) line k = changed 129 k (outcome (plain clubs) (insert rank entry) (take k.waiting k.tape) k.store [])
+answer_to (Some (Delete rank)) line k = changed 130 k (outcome (plain clubs) (delete rank) (take k.waiting k.tape) k.store [])
+answer_to (Some (Read first last)) line k =
     keeping k (read_line (outcome (plain clubs) (read first last 64) [] k.store (replicate 64 0)) k.store)
-answer_to (Tape words) line k = taped line words k
-answer_to Print line k =
+answer_to (Some (Tape words)) line k = taped line words k
+answer_to (Some Print) line k =
     record { replies = print_lines (outcome (plain clubs) check [] k.store []) k.store; kept = k }
-answer_to Clear line k = cleared k (outcome (plain clubs) clear [] k.store [])
-answer_to (Place rank) line k =
+answer_to (Some Clear) line k = cleared k (outcome (plain clubs) clear [] k.store [])
+answer_to (Some (Place rank)) line k =
     keeping k (place_line (outcome (plain clubs) (place rank) [] k.store []) k.store)
-answer_to NoFrame line k = keeping k (refusal 255 cause.NoFrame k.store)
+answer_to None line k = keeping k (refusal 255 cause.NoFrame k.store)
 
 -- What is kept after a line.
 abbrev pub kept_by : List ℕ → Kept → Kept

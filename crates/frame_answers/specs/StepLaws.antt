@@ -1,5 +1,5 @@
 -- What each frame's answer comes to, told by what its call left.
-use Rattle.std.specs.Prelude.{◌≡◌, refl, ◌≢◌, get_or, take}
+use Rattle.std.specs.Prelude.{Result, ◌≡◌, refl, ◌≢◌, get_or, take}
 use Rattle.std.proofs.Math.Path.{ap, sym}
 use Rattle.std.proofs.Common.{◌∙◌, arith}
 use mathlib.Core.List.{List, [], ◌∷◌, ◌++◌, append-nil}
@@ -7,6 +7,7 @@ use Prim.Native.Nat.{ℕ, ◌+◌, ◌≤◌, ◌<◌}
 use Rattle.std.proofs.Math.Nat.{zero-add}
 use Rattle.std.proofs.Math.ListN.{length, drop, length-append}
 use Rattle.base.specs.CaseLaws.{if_eq_yes, if_eq_no, if_lt_yes, if_lt_no}
+use Rattle.call_outcomes.specs.declared.Cause.{Cause}
 use Rattle.call_outcomes.specs.declared.Cause.TheVariants as cause
 use Rattle.call_outcomes.specs.declared.Returned.{Returned}
 use Rattle.call_outcomes.specs.declared.Answer.{Answer}
@@ -34,7 +35,7 @@ one_line reply w = rw (append-nil (line_of reply)) w
 
 -- ---- read, place and clear
 
-module _ {o : Outcome PlainStore} {given : Answer} {slots counts tallies output : List ℕ} {back : Returned}
+module _ {o : Outcome PlainStore} {given : Result Answer Cause} {slots counts tallies output : List ℕ} {back : Returned}
     (done : plain_outcome_of given slots counts tallies output ≡ o) (is : back ≡ returned given) where
   pub read_refused : back.number ≢ 0 → brief 131 back.number (get_or counts 1 0) ≡ read_line o (plain_store_of slots counts tallies)
   unfolding read_line read_reply entry_count
@@ -59,7 +60,7 @@ module _ {o : Outcome PlainStore} {given : Answer} {slots counts tallies output 
   clear_gives w = record { store_is = ap (λ (x : Outcome PlainStore). x.store) done; wrote = rw (← done, ← is) w }
 
 -- An accepted read gives no more entries than it has room for.
-pub read_most : (first last room : ℕ) (store : PlainStore) (given : Answer) (slots counts tallies output output' : List ℕ) (back : Returned)
+pub read_most : (first last room : ℕ) (store : PlainStore) (given : Result Answer Cause) (slots counts tallies output output' : List ℕ) (back : Returned)
     → plain_outcome_of given slots counts tallies output' ≡ outcome (plain clubs) (read first last room) [] store output → back ≡ returned given
     → back.number ≡ 0 → back.first ≤ room
 unfolding reply_to

@@ -1,5 +1,5 @@
 -- Every reply that the program gives fits its line, so that it can be read back.
-use Rattle.std.specs.Prelude.{◌≡◌, refl, Bool, true, not, ◌&&◌, ◌≢◌, eqb, length, replicate}
+use Rattle.std.specs.Prelude.{Option, Some, None, ◌≡◌, refl, Bool, true, not, ◌&&◌, ◌≢◌, eqb, length, replicate}
 use mathlib.Core.List.{List, [], ◌∷◌, ◌++◌}
 use Prim.Native.Nat.{ℕ, zero, suc, ◌+◌, ◌-◌, ◌*◌, ◌^◌, ◌≤◌, ◌<◌}
 use Rattle.std.proofs.Math.Nat.{mul-le-mul}
@@ -29,7 +29,7 @@ use Rattle.call_outcomes.proofs.AcceptedLaws.{question_decoded, question_free, e
 use Rattle.call_outcomes.specs.Clubs.{clubs}
 use Rattle.call_outcomes.proofs.ClubsLaws.{clubs_roomy}
 use Rattle.frame_lines.specs.declared.Frame.{Frame}
-use Rattle.frame_lines.specs.declared.Frame.TheVariants.{Insert, Delete, Read, Tape, Print, Clear, Place, NoFrame}
+use Rattle.frame_lines.specs.declared.Frame.TheVariants.{Insert, Delete, Read, Tape, Print, Clear, Place}
 use Rattle.frame_tape.specs.Tape.{most_waiting}
 use Rattle.frame_replies.specs.ReadBack.{EntriesFit, BriefFits, Writable}
 use Rattle.frame_answers.specs.Step.{Kept, Answered, entry_count, refusal, keeping, changed_by, changed, read_reply, read_line, place_reply, place_line, clear_line, cleared, taped, leaf_reply, leaf_replies, leaves_of, sheet_replies, print_replies, print_lines, answer_to}
@@ -160,39 +160,39 @@ module _ (store : PlainStore) (f : StoreFits store.sheet) where
 -- ---- all replies
 
 -- Where the slots and counts before and after fit their widths, every reply fits its line.
-pub replies_writable : (frame : Frame) (line : List ℕ) (k : Kept) → StoreFits k.store.sheet → StoreFits (answer_to frame line k).kept.store.sheet
+pub replies_writable : (frame : Option Frame) (line : List ℕ) (k : Kept) → StoreFits k.store.sheet → StoreFits (answer_to frame line k).kept.store.sheet
     → Every Writable (answer_to frame line k).replies
 unfolding answer_to refusal keeping changed changed_by read_line read_reply place_line place_reply cleared clear_line taped print_lines print_replies Every Writable plain_test
-replies_writable (Insert rank entry) line k f g =
+replies_writable (Some (Insert rank entry)) line k f g =
     let o = outcome (plain clubs) (insert rank entry) (take k.waiting k.tape) k.store [] in
     (brief_plain 129 _ _ (omega arith) (number_fits o.answer) (count_fits o.store g) refl, tt)
-replies_writable (Delete rank) line k f g =
+replies_writable (Some (Delete rank)) line k f g =
     let o = outcome (plain clubs) (delete rank) (take k.waiting k.tape) k.store [] in
     (brief_plain 130 _ _ (omega arith) (number_fits o.answer) (count_fits o.store g) refl, tt)
-replies_writable (Read first last) line k f g =
+replies_writable (Some (Read first last)) line k f g =
     let o = outcome (plain clubs) (read first last 64) [] k.store (replicate 64 0) in (
       by_eq Writable (returned o.answer).number 0 _ _
           (λ yes. (count_fits k.store f, read_fits k.store f first last 64 yes))
           (brief_refused 131 _ _ (omega arith) (number_fits o.answer) (count_fits k.store f) (λ e. omega arith) (λ e. omega arith)),
       tt,
     )
-replies_writable (Tape words) line k f g =
+replies_writable (Some (Tape words)) line k f g =
     by_lt (λ (a : Answered). Every Writable a.replies) most_waiting (k.waiting + words) _ _
     (λ full. (brief_plain 132 _ _ (omega arith) (omega arith) (count_fits k.store f) refl, tt))
     (λ room. (brief_plain 132 0 _ (omega arith) (omega arith) (count_fits k.store f) refl, tt))
-replies_writable Print line k f g =
+replies_writable (Some Print) line k f g =
     let o = outcome (plain clubs) check [] k.store [] in (
       brief_plain 133 _ _ (omega arith) (number_fits o.answer) (count_fits k.store f) refl,
       by_eq (Every Writable) (returned o.answer).number 0 _ _ (λ yes. sheet_fits k.store f (size_most k.store f yes)) (λ no. tt),
     )
-replies_writable Clear line k f g =
+replies_writable (Some Clear) line k f g =
     let o = outcome (plain clubs) clear [] k.store [] in
     (brief_plain 134 _ _ (omega arith) (number_fits o.answer) (count_fits o.store g) refl, tt)
-replies_writable (Place rank) line k f g =
+replies_writable (Some (Place rank)) line k f g =
     let o = outcome (plain clubs) (place rank) [] k.store [] in (
       by_eq Writable (returned o.answer).number 0 _ _
           (λ yes. let p = place_fits k.store f rank yes in (count_fits k.store f, p.0, p.1, p.2))
           (brief_refused 135 _ _ (omega arith) (number_fits o.answer) (count_fits k.store f) (λ e. omega arith) (λ e. omega arith)),
       tt,
     )
-replies_writable NoFrame line k f g = (brief_plain 255 _ _ (omega arith) (omega arith) (count_fits k.store f) refl, tt)
+replies_writable None line k f g = (brief_plain 255 _ _ (omega arith) (omega arith) (count_fits k.store f) refl, tt)

@@ -14,7 +14,7 @@ ghost use Rattle.frame_tape.specs.Tape.{most_waiting};
 ghost use Rattle.frame_answers.specs.Step.{read_line, place_line, taped};
 ghost use Rattle.frame_answers.specs.Gives.{kept_of, Gives, ClearGives};
 
-use call_outcomes::Cause;
+use call_outcomes::{Cause, Returned};
 
 // What a step gives: how many bytes of answer stand at the front of the output, and how many words wait now.
 #[derive(Clone, Copy)]
@@ -58,7 +58,7 @@ pub fn read_line(
         output.new result }
 {
     let mut list = [0u64; 64];
-    let back = sheet_calls::read(slots, counts, tallies, first, last, &mut list).returned();
+    let back = Returned::from(sheet_calls::read(slots, counts, tallies, first, last, &mut list));
     let number = back.number;
     if number != 0 {
         return answer(output, 131, number, counts);
@@ -82,7 +82,7 @@ pub fn place_line(
         (plain_store_of slots.now counts.now tallies.now)))
         output.new result }
 {
-    let back = sheet_calls::place(slots, counts, tallies, rank).returned();
+    let back = Returned::from(sheet_calls::place(slots, counts, tallies, rank));
     let number = back.number;
     if number != 0 {
         return answer(output, 135, number, counts);
@@ -109,7 +109,7 @@ pub fn clear_line(
     ensures { ClearGives (outcome (plain clubs) clear [] (plain_store_of slots.old counts.old tallies.old) [])
         output.old result (plain_store_of slots.new counts.new tallies.new) output.new }
 {
-    let back = sheet_calls::clear(slots, counts, tallies).returned();
+    let back = Returned::from(sheet_calls::clear(slots, counts, tallies));
     answer(output, 134, back.number, counts)
 }
 
@@ -133,7 +133,7 @@ pub fn tape_line(
         output.old result.bytes result.waiting (plain_store_of slots.now counts.now tallies.now) tape.new output.new }
 {
     if tape.len() - waiting < words {
-        let full = Cause::TapeFull.number();
+        let full = usize::from(Cause::TapeFull);
         let refused = answer(output, 132, full, counts);
         return Stepped {
             bytes: refused,

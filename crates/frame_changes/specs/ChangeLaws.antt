@@ -1,7 +1,8 @@
 -- What the answer to an insert or a delete comes to, told by what its call left.
-use Rattle.std.specs.Prelude.{◌≡◌, List, [], ℕ, ◌-◌, ◌≤◌, length, get_or, take}
+use Rattle.std.specs.Prelude.{Result, ◌≡◌, List, [], ℕ, ◌-◌, ◌≤◌, length, get_or, take}
 use Rattle.std.proofs.Common.{length-take-le}
 use Rattle.tree_rules.specs.declared.Change.{Change}
+use Rattle.call_outcomes.specs.declared.Cause.{Cause}
 use Rattle.call_outcomes.specs.declared.Returned.{Returned}
 use Rattle.call_outcomes.specs.declared.Answer.{Answer}
 use Rattle.call_outcomes.specs.Returns.{returned}
@@ -25,7 +26,7 @@ pub change_gives : (kind waiting : ℕ) (back : Returned) (slots counts tallies 
 unfolding changed_by entry_count
 change_gives kind waiting back slots counts tallies tape tape' e w = record { kept = rw e; wrote = one_line _ w }
 
-module _ (change : Change) (e : ℕ) (store : PlainStore) (tape : List ℕ) (waiting : ℕ) (given : Answer) (slots counts tallies : List ℕ) (back : Returned)
+module _ (change : Change) (e : ℕ) (store : PlainStore) (tape : List ℕ) (waiting : ℕ) (given : Result Answer Cause) (slots counts tallies : List ℕ) (back : Returned)
     (done : plain_outcome_of given slots counts tallies [] ≡ outcome (plain clubs) (changing change e) (take waiting tape) store []) (is : back ≡ returned given) where
   pub changed_gives : (kind : ℕ) {output output' tape' : List ℕ} {bytes waiting' : ℕ} {store' : PlainStore}
       → Gives (changed_by kind (kept_of (plain_store_of slots counts tallies) tape waiting) back (plain_store_of slots counts tallies)) output bytes waiting' store' tape' output'

@@ -60,14 +60,14 @@ fn change_line(
         (outcome (plain clubs) (call.changing change entry) (take waiting tape.old) (plain_store_of slots.old counts.old tallies.old) []))
         output.old result.bytes result.waiting (plain_store_of slots.new counts.new tallies.new) tape.new output.new }
 {
-    let back = sheet_calls::make_change(
+    let back = Returned::from(sheet_calls::make_change(
         slots,
         counts,
         tallies,
         change,
         entry,
         &tape[..waiting],
-    ).returned();
+    ));
     change_answer(kind, back, slots, counts, tallies, tape, waiting, output)
 }
 

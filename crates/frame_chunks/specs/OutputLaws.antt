@@ -1,5 +1,5 @@
 -- What the program writes parts again at its LFs, line by line, into the replies that it gave.
-use Rattle.std.specs.Prelude.{◌≡◌, refl, false, ◌≢◌, List, [], ◌∷◌, ◌++◌, map, ℕ, zero, suc, ◌+◌, ◌/◌, ◌%◌}
+use Rattle.std.specs.Prelude.{Option, ◌≡◌, refl, false, ◌≢◌, List, [], ◌∷◌, ◌++◌, map, ℕ, zero, suc, ◌+◌, ◌/◌, ◌%◌}
 use Rattle.std.proofs.Common.{ap, ap₂, ◌∙◌, append_assoc, arith}
 use Rattle.base.specs.Lists.{Every}
 use Rattle.base.specs.ListLaws.{every_append}
@@ -81,7 +81,7 @@ replies_back replies w = ap (map reply_of) (replies_part replies) ∙ each repli
     each (r ∷ rs) w = ap₂ (λ (x : Reply) (xs : List Reply). x ∷ xs) (reply_back r w.0) (each rs w.1)
 
 -- The bytes that answer a frame, read line by line, are its replies: for slots and counts that fit their widths, as those of lent slices do.
-pub answer_back : (frame : Frame) (line : List ℕ) (k : Kept) → StoreFits k.store.sheet → StoreFits (answer_to frame line k).kept.store.sheet
+pub answer_back : (frame : Option Frame) (line : List ℕ) (k : Kept) → StoreFits k.store.sheet → StoreFits (answer_to frame line k).kept.store.sheet
     → map reply_of (lines_of (bytes_of (answer_to frame line k).replies)) ≡ (answer_to frame line k).replies
 answer_back frame line k before after =
     replies_back (answer_to frame line k).replies (replies_writable frame line k before after)

@@ -5,44 +5,16 @@ ghost use Rattle.std.specs.Prelude.{◌≡◌, ◌≤◌, length};
 ghost use Rattle.call_outcomes.specs.Plain.{plain_store_of};
 ghost use Rattle.frame_lines.specs.Frame.{frame_of};
 ghost use Rattle.frame_tape.specs.Tape.{most_waiting};
-ghost use Rattle.frame_replies.specs.Reply.{bytes_of};
-ghost use Rattle.frame_replies.specs.Wrote.{Wrote};
 ghost use Rattle.frame_answers.specs.Step.{answer_to, longest};
 ghost use Rattle.frame_answers.specs.Gives.{kept_of, Gives};
-ghost use Rattle.frame_dispatch.specs.Question.{Asks, replies_to};
 
 use call_outcomes::Cause;
 use frame_answers::Stepped;
 use frame_lines::Frame;
 
-// Answers a frame that only asks.
-fn answer_question(
-    frame: Frame,
-    slots: &[u64],
-    counts: &[u16],
-    tallies: &[u16],
-    output: &mut [u8],
-) -> usize
-    requires frame { Asks frame }
-    requires room { longest ≤ length output.old }
-    ensures { Wrote output.old 0 (bytes_of (replies_to frame (plain_store_of slots.now counts.now tallies.now))) output.new result }
-{
-    match frame {
-        Frame::Read { first, last } => frame_answers::read_line(
-            slots, counts, tallies, first, last, output,
-        ),
-        Frame::Print => frame_print::print_line(slots, counts, tallies, output),
-        Frame::Place { rank } => frame_answers::place_line(slots, counts, tallies, rank, output),
-        _ => {
-            let number = Cause::NoFrame.number();
-            frame_answers::answer(output, 255, number, counts)
-        }
-    }
-}
-
-// Answers a frame.
+// Answers a frame, or a line that is none.
 pub fn answer_frame(
-    frame: Frame,
+    frame: Option<Frame>,
     line: &[u8],
     slots: &mut [u64],
     counts: &mut [u16],
@@ -60,28 +32,35 @@ pub fn answer_frame(
         output.old result.bytes result.waiting (plain_store_of slots.new counts.new tallies.new) tape.new output.new }
 {
     match frame {
-        Frame::Insert { rank, entry } => {
+        Some(Frame::Insert { rank, entry }) => {
             frame_changes::insert_line(slots, counts, tallies, tape, waiting, rank, entry, output)
         }
-        Frame::Delete { rank } => frame_changes::delete_line(
-            slots, counts, tallies, tape, waiting, rank, output,
-        ),
-        Frame::Tape { words } => frame_answers::tape_line(
+        Some(Frame::Delete { rank }) => {
+            frame_changes::delete_line(slots, counts, tallies, tape, waiting, rank, output)
+        }
+        Some(Frame::Tape { words }) => frame_answers::tape_line(
             line, words, slots, counts, tallies, tape, waiting, output,
         ),
-        Frame::Clear => {
-            let bytes = frame_answers::clear_line(slots, counts, tallies, output);
-            Stepped {
-                bytes: bytes,
-                waiting: waiting,
-            }
+        Some(Frame::Read { first, last }) => {
+            let bytes = frame_answers::read_line(slots, counts, tallies, first, last, output);
+            Stepped { bytes, waiting }
         }
-        _ => {
-            let bytes = answer_question(frame, slots, counts, tallies, output);
-            Stepped {
-                bytes: bytes,
-                waiting: waiting,
-            }
+        Some(Frame::Print) => {
+            let bytes = frame_print::print_line(slots, counts, tallies, output);
+            Stepped { bytes, waiting }
+        }
+        Some(Frame::Clear) => {
+            let bytes = frame_answers::clear_line(slots, counts, tallies, output);
+            Stepped { bytes, waiting }
+        }
+        Some(Frame::Place { rank }) => {
+            let bytes = frame_answers::place_line(slots, counts, tallies, rank, output);
+            Stepped { bytes, waiting }
+        }
+        None => {
+            let number = usize::from(Cause::NoFrame);
+            let bytes = frame_answers::answer(output, 255, number, counts);
+            Stepped { bytes, waiting }
         }
     }
 }

@@ -1,14 +1,13 @@
--- Laws of frames: how a line is tested from a place on, that c digits write a number below 16 ^ c, which test decides a frame, a proof by
+-- Laws of frames: that c digits write a number below 16 ^ c, which test decides a frame, a proof by
 -- the cases of a frame, and that the words of a tape lie within its line.
-use Rattle.std.specs.Prelude.{◌≡◌, refl, Bool, ◌≢◌, List, ℕ, zero, suc, ◌+◌, ◌*◌, ◌/◌, ◌%◌, ◌<◌, ◌≤◌, ◌^◌, length, get_or, drop}
-use Rattle.std.proofs.Common.{ap, sym, ◌∙◌, arith, pow-suc, drop_of_length-le, drop-cons, eq-eqb, ne_eqb}
+use Rattle.std.specs.Prelude.{◌≡◌, refl, Option, Some, None, Bool, ◌≢◌, List, ℕ, zero, suc, ◌+◌, ◌*◌, ◌/◌, ◌%◌, ◌<◌, ◌≤◌, ◌^◌, length, get_or}
+use Rattle.std.proofs.Common.{ap, sym, ◌∙◌, arith, pow-suc, eq-eqb}
 use Rattle.std.proofs.Math.Bool.{true, false}
 use Rattle.std.proofs.Math.Numerals.{add-one}
 use Rattle.std.proofs.Math.Nat.{pow-zero, pow-le-pow_right}
 use Rattle.base.specs.CaseLaws.{if_eq_yes, if_eq_no, if_lt_yes, if_lt_no, by_eq, by_lt}
-use Rattle.frame_lines.specs.Frame.{is_hex_digit, hex_value, all_hex, is_hex_line, field, of_length, insert_of, delete_of, read_of, tape_of, place_of, form_of, frame_of, words_of}
+use Rattle.frame_lines.specs.Frame.{hex_value, all_hex, is_hex_line, field, of_length, insert_of, delete_of, read_of, tape_of, place_of, form_of, frame_of, words_of}
 use Rattle.frame_lines.specs.declared.Frame.{Frame}
-use Rattle.frame_lines.specs.declared.Frame.TheVariants.{NoFrame}
 
 -- ---- digits
 
@@ -42,24 +41,7 @@ field_next line i c v l h =
     let p : 16 ^ c ≤ 16 ^ 15 = pow-le-pow_right b m in
     omega (arith, field_lt line i c, p)
 
--- ---- the line from a place on
-
-module _ (line : List ℕ) (i : ℕ) where
-  pub hex_step : i < length line → is_hex_digit (get_or line i 0) ≡ true → all_hex (drop i line) ≡ all_hex (drop (i + 1) line)
-  unfolding all_hex
-  hex_step l h = rw (drop-cons line i 0 l, add-one, h)
-
-  pub hex_other : i < length line → is_hex_digit (get_or line i 0) ≡ false → all_hex (drop i line) ≡ false
-  unfolding all_hex
-  hex_other l h = rw (drop-cons line i 0 l, h)
-
-  pub hex_past : length line ≤ i → all_hex (drop i line) ≡ true
-  unfolding all_hex
-  hex_past l = rw (drop_of_length-le line l)
-
-pub line_odd : (line : List ℕ) → length line % 2 ≢ 0 → is_hex_line line ≡ false
-unfolding is_hex_line
-line_odd line ne = rw (ne_eqb (length line % 2) 0 ne)
+-- ---- hexadecimal pairs
 
 pub line_even : (line : List ℕ) → length line % 2 ≡ 0 → is_hex_line line ≡ all_hex line
 unfolding is_hex_line
@@ -68,20 +50,20 @@ line_even line e = rw (eq-eqb (length line % 2) 0 e)
 -- ---- lengths
 
 module _ (line : List ℕ) (n : ℕ) (x : Frame) where
-  pub length_is : length line ≡ n → of_length line n x ≡ x
+  pub length_is : length line ≡ n → of_length line n x ≡ Some x
   unfolding of_length
-  length_is e = if_eq_yes (length line) n x NoFrame e
+  length_is e = if_eq_yes (length line) n (Some x) None e
 
-  pub length_other : length line ≢ n → of_length line n x ≡ NoFrame
+  pub length_other : length line ≢ n → of_length line n x ≡ None
   unfolding of_length
-  length_other ne = if_eq_no (length line) n x NoFrame ne
+  length_other ne = if_eq_no (length line) n (Some x) None ne
 
 -- ---- the first byte
 
 pub at_first : (line : List ℕ) (first k : ℕ) → first ≡ k → form_of k line ≡ form_of first line
 at_first line first k e = ap (λ (n : ℕ). form_of n line) (sym e)
 
-pub first_other : (line : List ℕ) (k : ℕ) → k ≢ 1 → k ≢ 2 → k ≢ 3 → k ≢ 4 → k ≢ 5 → k ≢ 6 → k ≢ 7 → form_of k line ≡ NoFrame
+pub first_other : (line : List ℕ) (k : ℕ) → k ≢ 1 → k ≢ 2 → k ≢ 3 → k ≢ 4 → k ≢ 5 → k ≢ 6 → k ≢ 7 → form_of k line ≡ None
 unfolding form_of
 first_other line k n1 n2 n3 n4 n5 n6 n7 =
     if_eq_no k 1 _ _ n1
@@ -94,11 +76,11 @@ first_other line k n1 n2 n3 n4 n5 n6 n7 =
 
 -- ---- the frame
 
-pub frame_short : (line : List ℕ) → length line < 2 → frame_of line ≡ NoFrame
+pub frame_short : (line : List ℕ) → length line < 2 → frame_of line ≡ None
 unfolding frame_of
 frame_short line l = if_lt_yes (length line) 2 _ _ l
 
-pub frame_other : (line : List ℕ) → 2 ≤ length line → is_hex_line line ≡ false → frame_of line ≡ NoFrame
+pub frame_other : (line : List ℕ) → 2 ≤ length line → is_hex_line line ≡ false → frame_of line ≡ None
 unfolding frame_of
 frame_other line l h = if_lt_no (length line) 2 _ _ l ∙ rw h
 
@@ -108,8 +90,8 @@ frame_hex line l h = if_lt_no (length line) 2 _ _ l ∙ rw h
 
 -- What holds of a line's frame, whatever its first byte: it holds of each form that has a length of its own and no words, of a tape, and
 -- of no frame.
-module _ (P : Frame → Type 0) (line : List ℕ) (sized : (n : ℕ) (x : Frame) → n ≤ 22 → words_of x ≡ 0 → P (of_length line n x))
-    (tape : P (tape_of line)) (none : P NoFrame) where
+module _ (P : Option Frame → Type 0) (line : List ℕ) (sized : (n : ℕ) (x : Frame) → n ≤ 22 → words_of (Some x) ≡ 0 → P (of_length line n x))
+    (tape : P (tape_of line)) (none : P None) where
   by_form : (first : ℕ) → P (form_of first line)
   unfolding form_of insert_of delete_of read_of place_of words_of
   by_form first =
@@ -125,38 +107,38 @@ module _ (P : Frame → Type 0) (line : List ℕ) (sized : (n : ℕ) (x : Frame)
   unfolding frame_of
   by_frame = by_lt P (length line) 2 _ _ (λ _. none) (λ _. hex (is_hex_line line))
     where
-      hex : (h : Bool) → P (elim h [ true ↦ form_of (field line 0 2) line | false ↦ NoFrame ])
+      hex : (h : Bool) → P (elim h [ true ↦ form_of (field line 0 2) line | false ↦ None ])
       hex true = by_form (field line 0 2)
       hex false = none
 
 -- ---- the words of a tape line
 
 -- A tape of w words has 2 + 8 w digits; no other frame has words.
-WordsWithin : List ℕ → Frame → Type 0
+WordsWithin : List ℕ → Option Frame → Type 0
 WordsWithin line x = (k : ℕ) → k < words_of x → 10 + 8 * k ≤ length line
 
-within_none : (line : List ℕ) (x : Frame) → words_of x ≡ 0 → WordsWithin line x
+within_none : (line : List ℕ) (x : Option Frame) → words_of x ≡ 0 → WordsWithin line x
 unfolding WordsWithin
 within_none line x e k l = omega arith
 
-within_length : (line : List ℕ) (n : ℕ) (x : Frame) → words_of x ≡ 0 → WordsWithin line (of_length line n x)
+within_length : (line : List ℕ) (n : ℕ) (x : Frame) → words_of (Some x) ≡ 0 → WordsWithin line (of_length line n x)
 unfolding of_length words_of
-within_length line n x e = by_eq (WordsWithin line) (length line) n x NoFrame (λ _. within_none line x e) (λ _. within_none line NoFrame refl)
+within_length line n x e = by_eq (WordsWithin line) (length line) n (Some x) None (λ _. within_none line (Some x) e) (λ _. within_none line None refl)
 
 within_tape : (line : List ℕ) → WordsWithin line (tape_of line)
 unfolding tape_of words_of WordsWithin
 within_tape line =
     by_eq (WordsWithin line) (length line % 8) 2 _ _
     (λ (e : length line % 8 ≡ 2).
-    by_lt (WordsWithin line) (length line / 8) 1 _ _ (λ _. within_none line NoFrame refl)
-    (λ _. by_lt (WordsWithin line) 16 (length line / 8) _ _ (λ _. within_none line NoFrame refl)
+    by_lt (WordsWithin line) (length line / 8) 1 _ _ (λ _. within_none line None refl)
+    (λ _. by_lt (WordsWithin line) 16 (length line / 8) _ _ (λ _. within_none line None refl)
     (λ _ k (l : k < length line / 8). omega (arith, e, l))))
-    (λ _. within_none line NoFrame refl)
+    (λ _. within_none line None refl)
 
 pub word_inside : (line : List ℕ) (k : ℕ) → k < words_of (frame_of line) → 10 + 8 * k ≤ length line
 unfolding WordsWithin words_of
 word_inside line =
-    by_frame (WordsWithin line) line (λ n x _ e. within_length line n x e) (within_tape line) (within_none line NoFrame refl)
+    by_frame (WordsWithin line) line (λ n x _ e. within_length line n x e) (within_tape line) (within_none line None refl)
 
 pub word_lt : (line : List ℕ) (i : ℕ) → field line i 8 < 2 ^ 32
 word_lt line i = field_lt line i 8

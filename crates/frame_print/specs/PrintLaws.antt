@@ -1,5 +1,5 @@
 -- What a print comes to, and that its output has room for it.
-use Rattle.std.specs.Prelude.{◌≡◌, ◌≢◌, List, [], take, drop}
+use Rattle.std.specs.Prelude.{Result, ◌≡◌, ◌≢◌, List, [], take, drop}
 use Prim.Native.Nat.{ℕ, suc, ◌+◌, ◌-◌, ◌*◌, ◌^◌, ◌≤◌, ◌<◌}
 use native.Mathlib.Omega.{arith}
 use Rattle.std.proofs.Common.{add-one, mul-le-mul_right, length-take}
@@ -12,6 +12,7 @@ use Rattle.store_order.specs.CountOrder.{number_order}
 use Rattle.store_layout.specs.Layout.{Store}
 use Rattle.store_layout.specs.Decode.{Contents, numbered}
 use Rattle.store_layout.proofs.SheetLaws.{decode_sound, size_known}
+use Rattle.call_outcomes.specs.declared.Cause.{Cause}
 use Rattle.call_outcomes.specs.declared.Returned.{Returned}
 use Rattle.call_outcomes.specs.declared.Answer.{Answer}
 use Rattle.call_outcomes.specs.Returns.{returned}
@@ -128,7 +129,7 @@ module _ (slots counts : List ℕ) {output middle : List ℕ} {at next : ℕ}
 
 -- ---- the answer
 
-module _ {o : Outcome PlainStore} {given : Answer} {slots counts tallies : List ℕ} {back : Returned}
+module _ {o : Outcome PlainStore} {given : Result Answer Cause} {slots counts tallies : List ℕ} {back : Returned}
     (done : plain_outcome_of given slots counts tallies [] ≡ o) (is : back ≡ returned given) {output middle : List ℕ} {next : ℕ} (first : Wrote output 0 (line_of (brief 133 back.number (get_or counts 1 0))) middle next) where
   pub print_refused : back.number ≢ 0 → Wrote output 0 (bytes_of (print_lines o (plain_store_of slots counts tallies))) middle next
   unfolding print_lines print_replies entry_count
@@ -140,7 +141,7 @@ module _ {o : Outcome PlainStore} {given : Answer} {slots counts tallies : List 
   print_accepted e more = rw (← done, ← is, if_eq_yes back.number 0 _ _ e) (wrote_more first more)
 
 -- A store that is a sheet of the clubs' can be printed.
-module _ (store : PlainStore) (given : Answer) (slots counts tallies : List ℕ) (back : Returned)
+module _ (store : PlainStore) (given : Result Answer Cause) (slots counts tallies : List ℕ) (back : Returned)
     (done : plain_outcome_of given slots counts tallies [] ≡ outcome (plain clubs) check [] store []) (is : back ≡ returned given) (zero_is : back.number ≡ 0) where
   checked : (before : Contents) × (decision (untallied clubs) check store.sheet ≡ accept before)
   checked =

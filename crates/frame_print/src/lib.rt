@@ -12,6 +12,7 @@ ghost use Rattle.frame_replies.specs.Wrote.{Wrote};
 ghost use Rattle.frame_answers.specs.Step.{leaf_reply, leaf_replies, sheet_replies, print_lines, longest};
 ghost use Rattle.frame_print.specs.Printed.{PrintReady, leaves_most};
 
+use call_outcomes::Returned;
 use tree_sizes::Size;
 
 // The line of leaf j, of s slots, whose range has the number first + j. The counts are those by range number.
@@ -49,11 +50,9 @@ fn print_leaves(
     requires room { at + leaves * (11 + 16 * s) ≤ length output.old }
     ensures { Wrote output.old at (bytes_of (leaf_replies slots.now counts.now s leaves 0 leaves)) output.new result }
 {
-    let mut j = 0;
     let mut next = at;
-    while j < leaves {
+    for j in 0..leaves {
         next = print_leaf(slots, counts, s, leaves, j, output, next);
-        j += 1;
     }
     next
 }
@@ -85,7 +84,7 @@ pub fn print_line(slots: &[u64], counts: &[u16], tallies: &[u16], output: &mut [
         (bytes_of (print_lines (outcome (plain clubs) call.check [] (plain_store_of slots.now counts.now tallies.now) []) (plain_store_of slots.now counts.now tallies.now)))
         output.new result }
 {
-    let number = sheet_calls::check(slots, counts, tallies).returned().number;
+    let number = Returned::from(sheet_calls::check(slots, counts, tallies)).number;
     let next = frame_answers::answer(output, 133, number, counts);
     if number != 0 {
         return next;

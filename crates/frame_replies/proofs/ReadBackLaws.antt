@@ -1,5 +1,5 @@
 -- Decoding what encoding writes gives it back, for every answer line and every frame whose numbers fit their fields.
-use Rattle.std.specs.Prelude.{◌≡◌, refl, true, ℕ, zero, suc, ◌+◌, ◌-◌, ◌*◌, ◌/◌, ◌%◌, ◌≤◌, ◌<◌, ◌^◌, length, get_or}
+use Rattle.std.specs.Prelude.{Option, Some, None, ◌≡◌, refl, true, ℕ, zero, suc, ◌+◌, ◌-◌, ◌*◌, ◌/◌, ◌%◌, ◌≤◌, ◌<◌, ◌^◌, length, get_or}
 use Rattle.std.proofs.Common.{ap, ap₂, subst, ◌∙◌, arith}
 use mathlib.Core.List.{List, [], ◌∷◌, ◌++◌, append_assoc, append-nil}
 use Rattle.std.proofs.Math.ListN.{length-append}
@@ -7,7 +7,7 @@ use Rattle.base.specs.Cases.{if_eq}
 use Rattle.base.specs.CaseLaws.{if_eq_yes, if_eq_no, if_lt_no, by_eq}
 use Rattle.base.specs.Lists.{Every}
 use Rattle.frame_lines.specs.declared.Frame.{Frame}
-use Rattle.frame_lines.specs.declared.Frame.TheVariants.{Insert, Delete, Read, Tape, Print, Clear, Place, NoFrame}
+use Rattle.frame_lines.specs.declared.Frame.TheVariants.{Insert, Delete, Read, Tape, Print, Clear, Place}
 use Rattle.frame_lines.specs.Frame.{all_hex, field, insert_of, delete_of, read_of, tape_of, place_of, of_length, form_of, frame_of, word_at}
 use Rattle.frame_lines.specs.FrameLaws.{line_even, length_is, frame_hex}
 use Rattle.frame_replies.specs.Reply.{digits, entry_digits, Reply, brief, entries, placed, sheet, leaf, header, encode}
@@ -176,21 +176,21 @@ module _ (first p a q b : ℕ) where
       form_back first (digits p a ++ digits q b) fits (rw length_rest even)
       (hex_append (digits p a) (digits q b) (hex_digits p a) (hex_digits q b))
 
-insert_back : (rank entry : ℕ) → rank < 2 ^ 16 → entry < 2 ^ 64 → frame_of (front 1 4 rank 16 entry) ≡ Insert rank entry
+insert_back : (rank entry : ℕ) → rank < 2 ^ 16 → entry < 2 ^ 64 → frame_of (front 1 4 rank 16 entry) ≡ Some (Insert rank entry)
 unfolding form_of insert_of if_eq
 insert_back rank entry rank-fits entry-fits =
     let line = front 1 4 rank 16 entry in
     two_form 1 4 rank 16 entry (omega arith) refl
     ∙ length_is line 22 (Insert (field line 2 4) (field line 6 16)) (length_two 1 4 rank 16 entry)
-    ∙ ap₂ Insert (second_alone 1 4 rank 16 entry rank-fits) (third_alone 1 4 rank 16 entry entry-fits)
+    ∙ ap₂ (λ (r e : ℕ). Some (Insert r e)) (second_alone 1 4 rank 16 entry rank-fits) (third_alone 1 4 rank 16 entry entry-fits)
 
-read_back : (first last : ℕ) → first < 2 ^ 16 → last < 2 ^ 16 → frame_of (front 3 4 first 4 last) ≡ Read first last
+read_back : (first last : ℕ) → first < 2 ^ 16 → last < 2 ^ 16 → frame_of (front 3 4 first 4 last) ≡ Some (Read first last)
 unfolding form_of read_of if_eq
 read_back first last first_fits last_Fits =
     let line = front 3 4 first 4 last in
     two_form 3 4 first 4 last (omega arith) refl
     ∙ length_is line 10 (Read (field line 2 4) (field line 6 4)) (length_two 3 4 first 4 last)
-    ∙ ap₂ Read (second_alone 3 4 first 4 last first_fits) (third_alone 3 4 first 4 last last_Fits)
+    ∙ ap₂ (λ (f l : ℕ). Some (Read f l)) (second_alone 3 4 first 4 last first_fits) (third_alone 3 4 first 4 last last_Fits)
 
 -- One rank, as a delete and a place have it.
 module _ (first rank : ℕ) (fits : first < 2 ^ 8) where
@@ -198,30 +198,30 @@ module _ (first rank : ℕ) (fits : first < 2 ^ 8) where
   one_form = form_back first (digits 4 rank) fits (rw (length_digits 4 rank)) (hex_digits 4 rank)
 
   rank_back : rank < 2 ^ 16 → (frame : ℕ → Frame)
-      → of_length (digits 2 first ++ digits 4 rank) 6 (frame (field (digits 2 first ++ digits 4 rank) 2 4)) ≡ frame rank
+      → of_length (digits 2 first ++ digits 4 rank) 6 (frame (field (digits 2 first ++ digits 4 rank) 2 4)) ≡ Some (frame rank)
   rank_back rank-fits frame =
       let line = digits 2 first ++ digits 4 rank in
       let long : length line ≡ 6 = length-append (digits 2 first) (digits 4 rank) ∙ rw (length_digits 2 first, length_digits 4 rank) in
-      length_is line 6 (frame (field line 2 4)) long ∙ ap frame (field_last (digits 2 first) 2 4 rank (length_digits 2 first) rank-fits)
+      length_is line 6 (frame (field line 2 4)) long ∙ ap (λ (r : ℕ). Some (frame r)) (field_last (digits 2 first) 2 4 rank (length_digits 2 first) rank-fits)
 
-delete_back : (rank : ℕ) → rank < 2 ^ 16 → frame_of (digits 2 2 ++ digits 4 rank) ≡ Delete rank
+delete_back : (rank : ℕ) → rank < 2 ^ 16 → frame_of (digits 2 2 ++ digits 4 rank) ≡ Some (Delete rank)
 unfolding form_of delete_of if_eq
 delete_back rank fits = one_form 2 rank (omega arith) ∙ rank_back 2 rank (omega arith) fits Delete
 
-place_back : (rank : ℕ) → rank < 2 ^ 16 → frame_of (digits 2 7 ++ digits 4 rank) ≡ Place rank
+place_back : (rank : ℕ) → rank < 2 ^ 16 → frame_of (digits 2 7 ++ digits 4 rank) ≡ Some (Place rank)
 unfolding form_of place_of if_eq
 place_back rank fits = one_form 7 rank (omega arith) ∙ rank_back 7 rank (omega arith) fits Place
 
 -- A first byte alone.
-print_back : frame_of (digits 2 5 ++ []) ≡ Print
+print_back : frame_of (digits 2 5 ++ []) ≡ Some Print
 unfolding form_of if_eq all_hex digits
 print_back = form_back 5 [] (omega arith) refl refl ∙ length_is (digits 2 5 ++ []) 2 Print refl
 
-clear_back : frame_of (digits 2 6 ++ []) ≡ Clear
+clear_back : frame_of (digits 2 6 ++ []) ≡ Some Clear
 unfolding form_of if_eq all_hex digits
 clear_back = form_back 6 [] (omega arith) refl refl ∙ length_is (digits 2 6 ++ []) 2 Clear refl
 
-none_back : frame_of (digits 2 255 ++ []) ≡ NoFrame
+none_back : frame_of (digits 2 255 ++ []) ≡ None
 unfolding form_of if_eq all_hex
 none_back = form_back 255 [] (omega arith) refl refl
 
@@ -247,7 +247,7 @@ word_behind (w ∷ words) xs n (suc k) at fits l =
     let place : n + 8 * suc k ≡ n + 8 + 8 * k = omega arith in
     rw (← append_assoc xs (digits 8 w) (word_digits words), place) (word_behind words (xs ++ digits 8 w) (n + 8) k next fits.1 (omega arith))
 
-tape_back : (count : ℕ) (words : List ℕ) → count ≡ length words → 1 ≤ count → count ≤ 16 → frame_of (digits 2 4 ++ word_digits words) ≡ Tape count
+tape_back : (count : ℕ) (words : List ℕ) → count ≡ length words → 1 ≤ count → count ≤ 16 → frame_of (digits 2 4 ++ word_digits words) ≡ Some (Tape count)
 unfolding form_of tape_of if_eq
 tape_back count words e some most =
     let line = digits 2 4 ++ word_digits words in
@@ -257,24 +257,24 @@ tape_back count words e some most =
     ∙ if_eq_yes (length line % 8) 2 _ _ (omega (arith, long))
     ∙ if_lt_no (length line / 8) 1 _ _ (omega (arith, long, some))
     ∙ if_lt_no 16 (length line / 8) _ _ (omega (arith, long, most))
-    ∙ ap Tape (omega (arith, long))
+    ∙ ap (λ (w : ℕ). Some (Tape w)) (omega (arith, long))
 
 -- ---- every frame
 
 -- Reading the line of a frame gives the frame that was written.
-pub frame_back : (frame : Frame) (words : List ℕ) → WritableFrame frame words → frame_of (frame_line frame words) ≡ frame
+pub frame_back : (frame : Option Frame) (words : List ℕ) → WritableFrame frame words → frame_of (frame_line frame words) ≡ frame
 unfolding frame_line operands WritableFrame front
-frame_back (Insert rank entry) words w = insert_back rank entry w.0 w.1
-frame_back (Delete rank) words w = delete_back rank w
-frame_back (Read first last) words w = read_back first last w.0 w.1
-frame_back (Tape count) words w = tape_back count words w.0 w.1 w.2
-frame_back Print words w = print_back
-frame_back Clear words w = clear_back
-frame_back (Place rank) words w = place_back rank w
-frame_back NoFrame words w = none_back
+frame_back (Some (Insert rank entry)) words w = insert_back rank entry w.0 w.1
+frame_back (Some (Delete rank)) words w = delete_back rank w
+frame_back (Some (Read first last)) words w = read_back first last w.0 w.1
+frame_back (Some (Tape count)) words w = tape_back count words w.0 w.1 w.2
+frame_back (Some Print) words w = print_back
+frame_back (Some Clear) words w = clear_back
+frame_back (Some (Place rank)) words w = place_back rank w
+frame_back None words w = none_back
 
 -- Each word of a tape is read as the word that was written.
-pub word_back : (count : ℕ) (words : List ℕ) → WritableFrame (Tape count) words → (k : ℕ) → k < count
-    → word_at (frame_line (Tape count) words) k ≡ get_or words k 0
+pub word_back : (count : ℕ) (words : List ℕ) → WritableFrame (Some (Tape count)) words → (k : ℕ) → k < count
+    → word_at (frame_line (Some (Tape count)) words) k ≡ get_or words k 0
 unfolding frame_line operands WritableFrame word_at
 word_back count words w k l = word_behind words (digits 2 4) 2 k (length_digits 2 4) w.3 (omega (arith, w.0))

@@ -1,5 +1,5 @@
 -- Answer lines and frames as bytes: those of document 01's example, a refusal, an accepted read and accepted places.
-use Rattle.std.specs.Prelude.{◌≡◌, refl, List, [], ◌∷◌, ◌++◌, ℕ, replicate}
+use Rattle.std.specs.Prelude.{Some, ◌≡◌, refl, List, [], ◌∷◌, ◌++◌, ℕ, replicate}
 use Rattle.base.specs.Cases.{if_eq, if_lt}
 use Rattle.frame_lines.specs.declared.Frame.TheVariants.{Insert, Tape}
 use Rattle.frame_lines.specs.Frame.{hex_value, field}
@@ -61,11 +61,11 @@ unfolding dead_heat_bytes reply_of reply_for accepted_of placed_of field hex_val
 dead_heat_read = refl
 
 -- 010001000000000000000B
-insert_line : frame_line (Insert 1 11) [] ≡ (48 ∷ 49 ∷ 48 ∷ 48 ∷ 48 ∷ 49 ∷ replicate 15 48) ++ (66 ∷ [])
+insert_line : frame_line (Some (Insert 1 11)) [] ≡ (48 ∷ 49 ∷ 48 ∷ 48 ∷ 48 ∷ 49 ∷ replicate 15 48) ++ (66 ∷ [])
 unfolding frame_line operands digits hex_digit if_lt
 insert_line = refl
 
 -- 0400000001
-tape_line : frame_line (Tape 1) (1 ∷ []) ≡ 48 ∷ 52 ∷ 48 ∷ 48 ∷ 48 ∷ 48 ∷ 48 ∷ 48 ∷ 48 ∷ 49 ∷ []
+tape_line : frame_line (Some (Tape 1)) (1 ∷ []) ≡ 48 ∷ 52 ∷ 48 ∷ 48 ∷ 48 ∷ 48 ∷ 48 ∷ 48 ∷ 48 ∷ 49 ∷ []
 unfolding frame_line operands word_digits digits hex_digit if_lt
 tape_line = refl

@@ -1,11 +1,11 @@
 -- The reverse of the program: an answer line read as the reply that it writes, and a frame written as a line (document 01, "Frames";
 -- document 02, F-3). Definitions only.
-use Rattle.std.specs.Prelude.{◌≡◌, ◌≢◌, List, [], ◌∷◌, ◌++◌, ℕ, zero, suc, ◌+◌, ◌-◌, ◌/◌, ◌≤◌, ◌<◌, ◌^◌, length}
+use Rattle.std.specs.Prelude.{Option, Some, None, ◌≡◌, ◌≢◌, List, [], ◌∷◌, ◌++◌, ℕ, zero, suc, ◌+◌, ◌-◌, ◌/◌, ◌≤◌, ◌<◌, ◌^◌, length}
 use Rattle.base.specs.Cases.{if_eq}
 use Rattle.base.specs.Lists.{Every}
 use Rattle.frame_lines.specs.declared.Frame.{Frame}
-use Rattle.frame_lines.specs.declared.Frame.TheVariants.{Insert, Delete, Read, Tape, Print, Clear, Place, NoFrame}
-use Rattle.frame_lines.specs.Frame.{field, kind}
+use Rattle.frame_lines.specs.declared.Frame.TheVariants.{Insert, Delete, Read, Tape, Print, Clear, Place}
+use Rattle.frame_lines.specs.Frame.{field, kind_or_none}
 use Rattle.frame_replies.specs.Reply.{digits, Reply, brief, entries, placed, sheet, leaf}
 
 -- ---- an answer line, read
@@ -82,31 +82,31 @@ word_digits [] = []
 word_digits (w ∷ words) = digits 8 w ++ word_digits words
 
 -- What follows the first byte of a frame. The words are those of a tape.
-unfoldable pub operands : Frame → List ℕ → List ℕ
-operands (Insert rank entry) words = digits 4 rank ++ digits 16 entry
-operands (Delete rank) words = digits 4 rank
-operands (Read first last) words = digits 4 first ++ digits 4 last
-operands (Tape count) words = word_digits words
-operands Print words = []
-operands Clear words = []
-operands (Place rank) words = digits 4 rank
-operands NoFrame words = []
+unfoldable pub operands : Option Frame → List ℕ → List ℕ
+operands (Some (Insert rank entry)) words = digits 4 rank ++ digits 16 entry
+operands (Some (Delete rank)) words = digits 4 rank
+operands (Some (Read first last)) words = digits 4 first ++ digits 4 last
+operands (Some (Tape count)) words = word_digits words
+operands (Some Print) words = []
+operands (Some Clear) words = []
+operands (Some (Place rank)) words = digits 4 rank
+operands None words = []
 
--- The line, without LF. `NoFrame` gives FF, which is no frame.
-unfoldable pub frame_line : Frame → List ℕ → List ℕ
-frame_line frame words = digits 2 (kind frame) ++ operands frame words
+-- The line, without LF. None gives FF, which is no frame.
+unfoldable pub frame_line : Option Frame → List ℕ → List ℕ
+frame_line frame words = digits 2 (kind_or_none frame) ++ operands frame words
 
 -- Every word fits 4 bytes.
 unfoldable pub WordsFit : List ℕ → Type 0
 WordsFit words = Every (λ (w : ℕ). w < 2 ^ 32) words
 
 -- Each number fits its field; a tape has 1 to 16 words, and counts them.
-unfoldable pub WritableFrame : Frame → List ℕ → Type 0
-WritableFrame (Insert rank entry) words = (rank < 2 ^ 16) × (entry < 2 ^ 64)
-WritableFrame (Delete rank) words = rank < 2 ^ 16
-WritableFrame (Read first last) words = (first < 2 ^ 16) × (last < 2 ^ 16)
-WritableFrame (Tape count) words = (count ≡ length words) × (1 ≤ count) × (count ≤ 16) × WordsFit words
-WritableFrame Print words = Unit {0}
-WritableFrame Clear words = Unit {0}
-WritableFrame (Place rank) words = rank < 2 ^ 16
-WritableFrame NoFrame words = Unit {0}
+unfoldable pub WritableFrame : Option Frame → List ℕ → Type 0
+WritableFrame (Some (Insert rank entry)) words = (rank < 2 ^ 16) × (entry < 2 ^ 64)
+WritableFrame (Some (Delete rank)) words = rank < 2 ^ 16
+WritableFrame (Some (Read first last)) words = (first < 2 ^ 16) × (last < 2 ^ 16)
+WritableFrame (Some (Tape count)) words = (count ≡ length words) × (1 ≤ count) × (count ≤ 16) × WordsFit words
+WritableFrame (Some Print) words = Unit {0}
+WritableFrame (Some Clear) words = Unit {0}
+WritableFrame (Some (Place rank)) words = rank < 2 ^ 16
+WritableFrame None words = Unit {0}

@@ -11,9 +11,10 @@ fn hex_digit(v: u64) -> u8
     ensures { result ≡ hex_digit v }
 {
     if v < 10 {
-        return 48 + v as u8;
+        b'0' + v as u8
+    } else {
+        b'A' + (v as u8 - 10)
     }
-    55 + v as u8
 }
 
 // The last c digits of a number.
@@ -21,10 +22,8 @@ fn put_digits(output: &mut [u8], at: usize, c: usize, v: u64) -> usize
     requires { at + c ≤ length output.old }
     ensures { Wrote output.old at (digits c v) output.new result }
 {
-    let mut left = c;
     let mut rest = v;
-    while 0 < left {
-        left -= 1;
+    for left in (0..c).rev() {
         output[at + left] = hex_digit(rest % 16);
         rest = rest / 16;
     }
@@ -45,11 +44,9 @@ fn put_entries(output: &mut [u8], at: usize, list: &[u64]) -> usize
     requires { at + 16 * length list.now ≤ length output.old }
     ensures { Wrote output.old at (entry_digits list.now) output.new result }
 {
-    let mut i = 0;
     let mut next = at;
-    while i < list.len() {
-        next = put_digits(output, next, 16, list[i]);
-        i += 1;
+    for entry in list {
+        next = put_digits(output, next, 16, *entry);
     }
     next
 }

@@ -1,6 +1,6 @@
 -- What is proved of histories holds for sessions whose answers have no 07: a session is the history of the calls that its lines ask.
 use Rattle.std.proofs.Math.Path.{◌≡◌, sym, ap}
-use Rattle.std.specs.Prelude.{refl, ◌≢◌, ◌↔◌, List, [], ◌∷◌, ◌++◌, ℕ}
+use Rattle.std.specs.Prelude.{Option, Some, None, Result, Err, refl, ◌≢◌, ◌↔◌, List, [], ◌∷◌, ◌++◌, ℕ}
 use Rattle.std.proofs.Common.{ap₂, ◌∙◌}
 use native.Mathlib.Omega.{arith}
 use Rattle.std.proofs.lemmas.List.{length-replicate}
@@ -11,8 +11,8 @@ use Rattle.draw_shares.specs.Course.{Follows}
 use Rattle.store_layout.specs.EmptyLaws.{empty_slots, empty_counts}
 use Rattle.store_tallies.specs.LayLaws.{empty_tallies}
 use Rattle.call_outcomes.specs.declared.Cause.TheVariants.{TapeEnded}
+use Rattle.call_outcomes.specs.declared.Cause.{Cause}
 use Rattle.call_outcomes.specs.declared.Answer.{Answer}
-use Rattle.call_outcomes.specs.declared.Answer.TheVariants.{Refused}
 use Rattle.call_outcomes.specs.Returns.{returned}
 use Rattle.call_outcomes.specs.Kind.{Kind, StoreFor}
 use Rattle.call_outcomes.specs.PlainCalls.{Call}
@@ -26,7 +26,7 @@ use Rattle.call_history.proofs.Shares.{last_sheet}
 use Rattle.call_history.proofs.Clause.{words}
 use Rattle.call_history.proofs.ClubSheets.{ClubSheet}
 use Rattle.frame_lines.specs.declared.Frame.{Frame}
-use Rattle.frame_lines.specs.declared.Frame.TheVariants.{Insert, Delete, Read, Tape, Print, Clear, Place, NoFrame}
+use Rattle.frame_lines.specs.declared.Frame.TheVariants.{Insert, Delete, Read, Tape, Print, Clear, Place}
 use Rattle.frame_lines.specs.Frame.{frame_of}
 use Rattle.frame_replies.specs.Reply.{Reply, brief}
 use Rattle.frame_answers.specs.Step.{Kept, at_start, keeping, changed_by, changed, read_reply, read_line, place_reply, place_line, clear_line, cleared, print_replies, print_lines, answer_to, kept_by, kept_after}
@@ -40,16 +40,16 @@ unfolding calls_of
 calls_append [] ys = refl
 calls_append (x ∷ xs) ys = ap (λ (calls : List Call). x.call ∷ calls) (calls_append xs ys)
 
-calls_by : (frame : Frame) (k : Kept) → calls_of (sent_by frame k) ≡ call_by frame
+calls_by : (frame : Option Frame) (k : Kept) → calls_of (sent_by frame k) ≡ call_by frame
 unfolding calls_of sent_by call_by
-calls_by (Insert rank entry) k = refl
-calls_by (Delete rank) k = refl
-calls_by (Read first last) k = refl
-calls_by (Tape words) k = refl
-calls_by Print k = refl
-calls_by Clear k = refl
-calls_by (Place rank) k = refl
-calls_by NoFrame k = refl
+calls_by (Some (Insert rank entry)) k = refl
+calls_by (Some (Delete rank)) k = refl
+calls_by (Some (Read first last)) k = refl
+calls_by (Some (Tape words)) k = refl
+calls_by (Some Print) k = refl
+calls_by (Some Clear) k = refl
+calls_by (Some (Place rank)) k = refl
+calls_by None k = refl
 
 -- Which calls a session makes follows from its lines alone, whatever the words.
 pub session_calls : (lines : List (List ℕ)) (k : Kept) → calls_of (sent_over lines k) ≡ calls_in lines
@@ -61,28 +61,28 @@ session_calls (line ∷ lines) k =
 
 -- ---- no answer has 07, so no call returns 7
 
-not_ended : (a : Answer) → (returned a).number ≢ 7 → a ≢ Refused TapeEnded
-not_ended a h e = h (ap (λ (x : Answer). (returned x).number) e)
+not_ended : (a : Result Answer Cause) → (returned a).number ≢ 7 → a ≢ Err TapeEnded
+not_ended a h e = h (ap (λ (x : Result Answer Cause). (returned x).number) e)
 
 -- an answer of entries or of a place stands where the number is 0
-module _ (other : Reply) (kind n : ℕ) (a : Answer) where
-  not_ended_else : number_of (if_eq (returned a).number 0 other (brief kind (returned a).number n)) ≢ 7 → a ≢ Refused TapeEnded
+module _ (other : Reply) (kind n : ℕ) (a : Result Answer Cause) where
+  not_ended_else : number_of (if_eq (returned a).number 0 other (brief kind (returned a).number n)) ≢ 7 → a ≢ Err TapeEnded
   unfolding number_of
   not_ended_else h e =
-      let seven : (returned a).number ≡ 7 = ap (λ (x : Answer). (returned x).number) e in
+      let seven : (returned a).number ≡ 7 = ap (λ (x : Result Answer Cause). (returned x).number) e in
       h (ap number_of (if_eq_no (returned a).number 0 _ _ (λ zero_is. omega (arith, seven, zero_is))) ∙ seven)
 
-none_by : (frame : Frame) (line : List ℕ) (k : Kept) → Every (λ reply. number_of reply ≢ 7) (answer_to frame line k).replies
+none_by : (frame : Option Frame) (line : List ℕ) (k : Kept) → Every (λ reply. number_of reply ≢ 7) (answer_to frame line k).replies
     → NoneEnds (plain clubs) (sent_by frame k) k.store
 unfolding answer_to changed changed_by keeping cleared clear_line read_line read_reply place_line place_reply print_lines print_replies number_of Every sent_by NoneEnds
-none_by (Insert rank entry) line k h = (not_ended _ h.0, tt)
-none_by (Delete rank) line k h = (not_ended _ h.0, tt)
-none_by (Read first last) line k h = (not_ended_else _ 131 _ _ h.0, tt)
-none_by (Tape words) line k h = tt
-none_by Print line k h = (not_ended _ h.0, tt)
-none_by Clear line k h = (not_ended _ h.0, tt)
-none_by (Place rank) line k h = (not_ended_else _ 135 _ _ h.0, tt)
-none_by NoFrame line k h = tt
+none_by (Some (Insert rank entry)) line k h = (not_ended _ h.0, tt)
+none_by (Some (Delete rank)) line k h = (not_ended _ h.0, tt)
+none_by (Some (Read first last)) line k h = (not_ended_else _ 131 _ _ h.0, tt)
+none_by (Some (Tape words)) line k h = tt
+none_by (Some Print) line k h = (not_ended _ h.0, tt)
+none_by (Some Clear) line k h = (not_ended _ h.0, tt)
+none_by (Some (Place rank)) line k h = (not_ended_else _ 135 _ _ h.0, tt)
+none_by None line k h = tt
 
 none_append : (kind : Kind) (xs ys : List (SentTo kind)) (store : StoreFor kind) → NoneEnds kind xs store → NoneEnds kind ys (last_store kind xs store)
     → NoneEnds kind (xs ++ ys) store

@@ -1,5 +1,5 @@
 -- The store after a session is the last store of the calls that its frames ask; every word that is brought is read at most once, in order.
-use Rattle.std.specs.Prelude.{◌≡◌, refl, List, [], ◌∷◌, ◌++◌, ℕ, zero, suc, ◌+◌, ◌-◌, ◌≤◌, ◌<◌, length, take, drop, replicate}
+use Rattle.std.specs.Prelude.{Option, Some, None, ◌≡◌, refl, List, [], ◌∷◌, ◌++◌, ℕ, zero, suc, ◌+◌, ◌-◌, ◌≤◌, ◌<◌, length, take, drop, replicate}
 use Rattle.std.proofs.Common.{sym, ap, ◌∙◌, ⊎_elim, append-nil, append_assoc, not-suc-le-zero, arith, length-drop, take-append-drop, length-take-le, take_all}
 use Rattle.std.proofs.Math.Nat.{sub-zero}
 use Rattle.std.proofs.Math.Seq.{take-nil, take-append-add}
@@ -13,7 +13,7 @@ use Rattle.call_outcomes.specs.DecisionLaws.{question_keeps}
 use Rattle.call_outcomes.specs.AnswerLaws.{words_within}
 use Rattle.call_history.specs.History.{SentTo, store_after, last_store}
 use Rattle.frame_lines.specs.declared.Frame.{Frame}
-use Rattle.frame_lines.specs.declared.Frame.TheVariants.{Insert, Delete, Read, Tape, Print, Clear, Place, NoFrame}
+use Rattle.frame_lines.specs.declared.Frame.TheVariants.{Insert, Delete, Read, Tape, Print, Clear, Place}
 use Rattle.frame_lines.specs.Frame.{frame_of}
 use Rattle.frame_tape.specs.Tape.{most_waiting, read_off, line_words}
 use Rattle.frame_tape.specs.TapeLaws.{length_words}
@@ -29,16 +29,16 @@ last_append kind [] ys store = refl
 last_append kind (x ∷ xs) ys store = last_append kind xs ys (store_after kind x store)
 
 -- The store after a frame.
-pub store_by : (frame : Frame) (line : List ℕ) (k : Kept) → (answer_to frame line k).kept.store ≡ last_store (plain clubs) (sent_by frame k) k.store
+pub store_by : (frame : Option Frame) (line : List ℕ) (k : Kept) → (answer_to frame line k).kept.store ≡ last_store (plain clubs) (sent_by frame k) k.store
 unfolding answer_to changed changed_by keeping cleared taped sent_by last_store store_after
-store_by (Insert rank entry) line k = refl
-store_by (Delete rank) line k = refl
-store_by (Read first last) line k = sym (question_keeps (plain clubs) _ [] k.store (replicate 64 0))
-store_by (Tape words) line k = by_lt (λ (a : Answered). a.kept.store ≡ k.store) most_waiting (k.waiting + words) _ _ (λ _. refl) (λ _. refl)
-store_by Print line k = sym (question_keeps (plain clubs) _ [] k.store [])
-store_by Clear line k = refl
-store_by (Place rank) line k = sym (question_keeps (plain clubs) _ [] k.store [])
-store_by NoFrame line k = refl
+store_by (Some (Insert rank entry)) line k = refl
+store_by (Some (Delete rank)) line k = refl
+store_by (Some (Read first last)) line k = sym (question_keeps (plain clubs) _ [] k.store (replicate 64 0))
+store_by (Some (Tape words)) line k = by_lt (λ (a : Answered). a.kept.store ≡ k.store) most_waiting (k.waiting + words) _ _ (λ _. refl) (λ _. refl)
+store_by (Some Print) line k = sym (question_keeps (plain clubs) _ [] k.store [])
+store_by (Some Clear) line k = refl
+store_by (Some (Place rank)) line k = sym (question_keeps (plain clubs) _ [] k.store [])
+store_by None line k = refl
 
 -- The store after the lines is the last store of the calls that their frames ask.
 pub session_store : (lines : List (List ℕ)) (k : Kept) → (kept_after lines k).store ≡ last_store (plain clubs) (sent_over lines k) k.store
@@ -52,7 +52,7 @@ session_store (line ∷ lines) k =
 -- ---- the words
 
 -- What a line brings goes behind the words that wait, and what its call reads leaves them at their front.
-unfoldable Passed : Frame → List ℕ → Kept → Kept → Type 0
+unfoldable Passed : Option Frame → List ℕ → Kept → Kept → Type 0
 Passed frame line k after = read_by frame k ++ waiting_words after ≡ waiting_words k ++ brought_by frame line k
 
 take_of_drop : (n w : ℕ) (xs : List ℕ) → n ≤ w → take (w - n) (drop n xs) ≡ drop n (take w xs)
@@ -77,7 +77,7 @@ change_passed : (n : ℕ) (k : Kept) → TapeReady k → n ≤ length (waiting_w
 change_passed n k t l =
     read_passed n k.waiting k.tape (read_within t n l) (waiting_within t) ∙ sym (append-nil (waiting_words k))
 
-tape_passed : (line : List ℕ) (words : ℕ) (k : Kept) → TapeReady k → Passed (Tape words) line k (taped line words k).kept
+tape_passed : (line : List ℕ) (words : ℕ) (k : Kept) → TapeReady k → Passed (Some (Tape words)) line k (taped line words k).kept
 unfolding Passed taped keeping read_by brought_by
 tape_passed line words k t =
     ⊎_elim
@@ -100,16 +100,16 @@ tape_passed line words k t =
         (take-append-le words (line_words line 0 words) (drop (k.waiting + words) k.tape) (omega (arith, length_words line 0 words))
         ∙ take_all words (line_words line 0 words) (omega (arith, length_words line 0 words)))
 
-passed : (frame : Frame) (line : List ℕ) (k : Kept) → TapeReady k → Passed frame line k (answer_to frame line k).kept
+passed : (frame : Option Frame) (line : List ℕ) (k : Kept) → TapeReady k → Passed frame line k (answer_to frame line k).kept
 unfolding Passed answer_to changed changed_by keeping cleared read_by brought_by
-passed (Insert rank entry) line k t = change_passed _ k t (words_within (plain clubs) (insert_at rank entry) (waiting_words k) k.store [])
-passed (Delete rank) line k t = change_passed _ k t (words_within (plain clubs) (delete_at rank) (waiting_words k) k.store [])
-passed (Read first last) line k t = sym (append-nil (waiting_words k))
-passed (Tape words) line k t = tape_passed line words k t
-passed Print line k t = sym (append-nil (waiting_words k))
-passed Clear line k t = sym (append-nil (waiting_words k))
-passed (Place rank) line k t = sym (append-nil (waiting_words k))
-passed NoFrame line k t = sym (append-nil (waiting_words k))
+passed (Some (Insert rank entry)) line k t = change_passed _ k t (words_within (plain clubs) (insert_at rank entry) (waiting_words k) k.store [])
+passed (Some (Delete rank)) line k t = change_passed _ k t (words_within (plain clubs) (delete_at rank) (waiting_words k) k.store [])
+passed (Some (Read first last)) line k t = sym (append-nil (waiting_words k))
+passed (Some (Tape words)) line k t = tape_passed line words k t
+passed (Some Print) line k t = sym (append-nil (waiting_words k))
+passed (Some Clear) line k t = sym (append-nil (waiting_words k))
+passed (Some (Place rank)) line k t = sym (append-nil (waiting_words k))
+passed None line k t = sym (append-nil (waiting_words k))
 
 -- The words that the calls read, and then those that wait, are those that waited and then those that the lines brought: each is read once.
 pub words_once : (lines : List (List ℕ)) (k : Kept) → TapeReady k

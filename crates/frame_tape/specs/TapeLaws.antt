@@ -38,7 +38,7 @@ get_d_read_off words tape i = ⊎_elim inside past (lt_or_ge i (length (drop wor
         get_or-eq_default tape 0 (omega (arith, length-drop words tape)) ∙ sym (rw e at zero-here)
 
 module _ (old : List ℕ) (words : ℕ) (room : words ≤ length old) where
-  pub read_off_next : (i x : ℕ) {new : List ℕ} → Pasted old 0 (read_off words old) i new → i < length new → x ≡ get_or new (i + words) 0
+  pub read_off_next : (i x : ℕ) {new : List ℕ} → Pasted old 0 (read_off words old) i new → i < length old → x ≡ get_or new (i + words) 0
       → Pasted old 0 (read_off words old) (i + 1) (set new i x)
   read_off_next i x w l value =
       pasted_next w i x (omega arith) (omega (arith, w.kept)) (omega (arith, w.kept, length_read_off words old room))
@@ -46,7 +46,7 @@ module _ (old : List ℕ) (words : ℕ) (room : words ≤ length old) where
       ∙ pasted_behind w (i + words) (omega arith) (omega arith) (omega (arith, w.kept, length_read_off words old room))
       ∙ get_d_read_off words old i)
 
-  pub read_off_done : (i : ℕ) {new : List ℕ} → Pasted old 0 (read_off words old) i new → length new ≤ i → new ≡ read_off words old
+  pub read_off_done : (i : ℕ) {new : List ℕ} → Pasted old 0 (read_off words old) i new → length old ≤ i → new ≡ read_off words old
   read_off_done i w l =
       copied_all w (sym (length_read_off words old room)) (omega (arith, w.kept, length_read_off words old room))
 

@@ -14,7 +14,7 @@ use frame_answers::Stepped;
 pub fn frame_kind(line: &[u8]) -> u8
     ensures { result ≡ kind_of line.now }
 {
-    frame_lines::decode(line).kind()
+    frame_lines::kind_of(line)
 }
 
 // Answers a line, given without its LF. The answer stands at the front of the output. The tape has 1,024 words, of which the first

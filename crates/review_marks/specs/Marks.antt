@@ -1,9 +1,8 @@
 -- The starred cases of document 01, "Marks round the course", the printed sheet by the leaf rule of document 02 (F-2): what each one names
 -- by the definitions. Definitions only.
-use Rattle.std.specs.Prelude.{List, [], ◌∷◌, map, ℕ, ◌+◌, ◌-◌, ◌*◌, ◌^◌}
+use Rattle.std.specs.Prelude.{List, [], ◌∷◌, map, ℕ, ◌+◌, ◌-◌, ◌*◌, ◌^◌, Option, Some, None}
 use Prim.Native.String.{String}
 use Rattle.draw.specs.declared.Drawn.{Drawn}
-use Rattle.draw.specs.declared.Drawn.TheVariants.{Face, Ended}
 use Rattle.draw.specs.Draw.{draw_at, tape_place_after}
 use Rattle.draw_shares.specs.Program.{Program, done, draw}
 use Rattle.tree_sizes.specs.Sizes.{digits, height, slots, candidates, window_start}
@@ -25,9 +24,9 @@ pub data Asked : Type 0 where
   words_of : ℕ → List ℕ → Asked
   delete_among : ℕ → ℕ → Asked
 
-unfoldable pub face : Drawn → ℕ
-face (Face f next) = f
-face Ended = 0
+unfoldable pub face : Option Drawn → ℕ
+face (Some d) = d.face
+face None = 0
 
 -- 0 where the size is kept without a draw, 1 where it is set without one.
 unfoldable pub among : Program SizeStep → ℕ

@@ -2,7 +2,7 @@
 -- store_order (TreeOrder), store_board (Board), store_scoring (Scoring), store_sums (Range), store_tallies (Tallies, HoldsTallies), store_ties (Groups, Ties), store_keys (Key),
 -- call_outcomes (Kind, Causes, Outcome, PlainCalls, Untallied, Slice, Plain, Clubs), call_timed (Timed), call_orders (Conversion, NumberOrder,
 -- Converts), call_history (History, TapeRuns), call_corrections (Accepted), call_readings (Reading), call_mend (Mending, Views), frame_sessions (Session) and frame_chunks (Chunk, Input).
-use Rattle.std.specs.Prelude.{◌≡◌, refl, Bool, true, false, ◌≢◌, ◌↔◌, ◌⊎◌, List, [], ◌∷◌, ◌++◌, map, ℕ, suc, ◌+◌, ◌-◌, ◌*◌, ◌^◌, ◌≤◌, ◌<◌, length, get_or, take, drop, replicate}
+use Rattle.std.specs.Prelude.{Ok, Err, ◌≡◌, refl, Bool, true, false, ◌≢◌, ◌↔◌, ◌⊎◌, List, [], ◌∷◌, ◌++◌, map, ℕ, suc, ◌+◌, ◌-◌, ◌*◌, ◌^◌, ◌≤◌, ◌<◌, length, get_or, take, drop, replicate}
 use Rattle.std.proofs.Math.Option.{some}
 use Rattle.std.proofs.Common.{arith}
 use Rattle.base.specs.Lists.{Every, total}
@@ -25,7 +25,7 @@ use Rattle.store_layout.specs.Layout.{Store, lay_out}
 use Rattle.store_layout.specs.Sheet.{IsContents}
 use Rattle.call_outcomes.specs.declared.Cause.{Cause}
 use Rattle.call_outcomes.specs.declared.Cause.TheVariants.{NotMendable, NotASheet, NotTimed, BoardRanks, EntryPresent, Rank, OutputShort, TapeEnded}
-use Rattle.call_outcomes.specs.declared.Answer.TheVariants.{Checked, Changed, Entries, Present, Converted, Mended, Refused}
+use Rattle.call_outcomes.specs.declared.Answer.TheVariants.{Checked, Changed, Entries, Present, Converted, Mended}
 use Rattle.call_outcomes.specs.Causes.{argument_cause}
 use Rattle.call_outcomes.specs.Outcome.{outcome, call_program}
 use Rattle.call_outcomes.specs.PlainCalls.{Call, insert_at, delete_at, edit_of, insert, delete, place, check, placed, changing}
@@ -153,7 +153,7 @@ coins_supplied calls store right = history_supplied (plain clubs) clubs_lawful (
 
 -- A call that is not refused by 7 has the same outcome on every longer tape that begins with the same words.
 pub more_tape : (call : Call) (tape more : List ℕ) (store : PlainStore) (output : List ℕ)
-    → (outcome (plain clubs) call tape store output).answer ≢ Refused TapeEnded
+    → (outcome (plain clubs) call tape store output).answer ≢ Err TapeEnded
     → outcome (plain clubs) call (tape ++ more) store output ≡ outcome (plain clubs) call tape store output
 more_tape = longer.more_tape (plain clubs)
 
@@ -165,7 +165,7 @@ last_sheet sent store right = shares.last_sheet (plain clubs) clubs_lawful sent 
 -- A call on a sheet that a cause of its arguments refuses answers with this cause, whatever the words and the shape.
 pub refused_by : (list : List ℕ) (store : PlainStore) → ClubSheet list store → (call : Call) (cause : Cause)
     → argument_cause (plain clubs) call list ≡ some cause → (tape output : List ℕ)
-    → (outcome (plain clubs) call tape store output).answer ≡ Refused cause
+    → (outcome (plain clubs) call tape store output).answer ≡ Err cause
 refused_by = refusals.refused_by (plain clubs) clubs_lawful
 
 -- ---- single calls
@@ -173,22 +173,22 @@ refused_by = refusals.refused_by (plain clubs) clubs_lawful
 -- A check of a sheet answers with the length of its list; a check of any other store of the right lengths, such as one with a wrong tally, is
 -- refused by cause 2.
 pub check_sheet : (list : List ℕ) (store : PlainStore) → ClubSheet list store → (tape output : List ℕ)
-    → (outcome (plain clubs) check tape store output).answer ≡ Checked (length list)
+    → (outcome (plain clubs) check tape store output).answer ≡ Ok (Checked (length list))
 check_sheet = sheets.check_sheet
 
 pub check_other : (store : PlainStore) → PlainLengths clubs store → ((list : List ℕ) → ClubSheet list store → ⊥) → (tape output : List ℕ)
-    → (outcome (plain clubs) check tape store output).answer ≡ Refused NotASheet
+    → (outcome (plain clubs) check tape store output).answer ≡ Err NotASheet
 check_other = sheets.check_other
 
 -- An accepted insert or delete on any sheet leaves a sheet of the changed list.
 pub changed_sheet : (list : List ℕ) (store : PlainStore) → ClubSheet list store → (by : Change) (entry : ℕ) (tape output : List ℕ) (n words : ℕ)
-    → (outcome (plain clubs) (changing by entry) tape store output).answer ≡ Changed n words
+    → (outcome (plain clubs) (changing by entry) tape store output).answer ≡ Ok (Changed n words)
     → ClubSheet (change_list by entry list) (outcome (plain clubs) (changing by entry) tape store output).store
 changed_sheet = sheets.changed_sheet
 
 -- A delete of the last entry leaves zeros.
 pub last_deleted : (e : ℕ) (store : PlainStore) → ClubSheet (e ∷ []) store → (tape output : List ℕ) (n words : ℕ)
-    → (outcome (plain clubs) (delete 0) tape store output).answer ≡ Changed n words
+    → (outcome (plain clubs) (delete 0) tape store output).answer ≡ Ok (Changed n words)
     → (outcome (plain clubs) (delete 0) tape store output).store ≡ zeros
 last_deleted = sheets.last_deleted
 
@@ -200,11 +200,11 @@ tree_order_lem H low range = order_permutes range H low
 
 -- On any counts with an M that a sheet can have each conversion undoes the other.
 pub there_and_back : (counts : List ℕ) → Convertible clubs counts
-    → conversion clubs to_number (conversion clubs to_tree counts).counts ≡ record { answer = Converted (get_or counts 0 0); counts = counts }
+    → conversion clubs to_number (conversion clubs to_tree counts).counts ≡ record { answer = Ok (Converted (get_or counts 0 0)); counts = counts }
 there_and_back = conversions.there_and_back clubs clubs_roomy
 
 pub back_and_there : (counts : List ℕ) → Convertible clubs counts
-    → conversion clubs to_tree (conversion clubs to_number counts).counts ≡ record { answer = Converted (get_or counts 0 0); counts = counts }
+    → conversion clubs to_tree (conversion clubs to_number counts).counts ≡ record { answer = Ok (Converted (get_or counts 0 0)); counts = counts }
 back_and_there = conversions.back_and_there clubs clubs_roomy
 
 -- A sheet from before F-5, slots and counts, becomes the slots and the counts of the same list with the same shape, the slots as they were.
@@ -265,26 +265,26 @@ timed_coins_supplied calls store right = history_supplied (timed clubs) clubs_ti
 -- A check of a timed sheet answers with the length of its list; a check of any other store of the right lengths is refused by cause 2 where
 -- slots, counts and tallies are no plain sheet, and by cause 11 where they are one.
 pub timed_check_sheet : (list : List ℕ) (store : TimedStore) → TimedSheet list store → (tape output : List ℕ)
-    → (outcome (timed clubs) timed_calls_lem.check tape store output).answer ≡ Checked (length list)
+    → (outcome (timed clubs) timed_calls_lem.check tape store output).answer ≡ Ok (Checked (length list))
 timed_check_sheet = timed-sheets.check_sheet
 
 pub timed_check_other : (store : TimedStore) → TimedLengths clubs store → (tape output : List ℕ) → ((list : List ℕ) → ClubSheet list store.sheet → ⊥)
-    → (outcome (timed clubs) timed_calls_lem.check tape store output).answer ≡ Refused NotASheet
+    → (outcome (timed clubs) timed_calls_lem.check tape store output).answer ≡ Err NotASheet
 timed_check_other = timed-sheets.check_other
 
 pub timed_check_untimed : (store : TimedStore) → TimedLengths clubs store → (tape output : List ℕ) (list : List ℕ) → ClubSheet list store.sheet
-    → ((list : List ℕ) → TimedSheet list store → ⊥) → (outcome (timed clubs) timed_calls_lem.check tape store output).answer ≡ Refused NotTimed
+    → ((list : List ℕ) → TimedSheet list store → ⊥) → (outcome (timed clubs) timed_calls_lem.check tape store output).answer ≡ Err NotTimed
 timed_check_untimed = timed-sheets.check_untimed
 
 -- A find of an entry is answered by the list: that it is there, with its rank, or that it is not, with the rank at which it would stand. An
 -- entry with the key of the one at a rank is found there, whatever its bits; and a key that is present is that of the entry at its rank.
 pub find_sheet : (list : List ℕ) (store : TimedStore) → TimedSheet list store → (e : ℕ) → key e ≢ 0 → (tape output : List ℕ)
-    → (outcome (timed clubs) (timed_calls_lem.find e) tape store output).answer ≡ found_at (present (key e) list) (rank_of (key e) list)
+    → (outcome (timed clubs) (timed_calls_lem.find e) tape store output).answer ≡ Ok (found_at (present (key e) list) (rank_of (key e) list))
 find_sheet = timed-sheets.find_sheet
 
 pub find_entry_lem : (list : List ℕ) (store : TimedStore) → TimedSheet list store → (r : ℕ) → r < length list
     → (e : ℕ) → key e ≡ key (get_or list r 0) → (tape output : List ℕ)
-    → (outcome (timed clubs) (timed_calls_lem.find e) tape store output).answer ≡ Present r
+    → (outcome (timed clubs) (timed_calls_lem.find e) tape store output).answer ≡ Ok (Present r)
 find_entry_lem = timed-sheets.find_entry_lem
 
 pub entry_at : (k : ℕ) (list : List ℕ) → Rises list → present k list ≡ true → (rank_of k list < length list) × (key (get_or list (rank_of k list) 0) ≡ k)
@@ -292,7 +292,7 @@ entry_at = keys.entry_at
 
 -- An insert that is made leaves a timed sheet of the list with the entry in at the rank of its key, and such a list rises.
 pub inserted_sheet : (list : List ℕ) (store : TimedStore) → TimedSheet list store → (e : ℕ) (tape output : List ℕ) (n words : ℕ)
-    → (outcome (timed clubs) (timed_calls_lem.insert e) tape store output).answer ≡ Changed n words
+    → (outcome (timed clubs) (timed_calls_lem.insert e) tape store output).answer ≡ Ok (Changed n words)
     → TimedSheet (change_list (Insert (rank_of (key e) list)) e list) (outcome (timed clubs) (timed_calls_lem.insert e) tape store output).store
 inserted_sheet = timed-sheets.inserted_sheet
 
@@ -303,7 +303,7 @@ key_without_bits = keys.key_without_bits
 
 pub insert_present : (list : List ℕ) (store : TimedStore) → TimedSheet list store → (r : ℕ) → r < length list
     → (e : ℕ) → key e ≡ key (get_or list r 0) → (tape output : List ℕ)
-    → (outcome (timed clubs) (timed_calls_lem.insert e) tape store output).answer ≡ Refused EntryPresent
+    → (outcome (timed clubs) (timed_calls_lem.insert e) tape store output).answer ≡ Err EntryPresent
 insert_present = timed-sheets.insert_present
 
 -- ---- the tallies
@@ -383,11 +383,11 @@ no_bits = placings.no_bits
 
 -- A place of an entry on a sheet is answered by the list: what her tied group has, or what a retired boat has.
 pub place_sheet : (list : List ℕ) (store : PlainStore) → ClubSheet list store → (i : ℕ) → i < length list → (tape output : List ℕ)
-    → (outcome (plain clubs) (place i) tape store output).answer ≡ placed (placing_in list i)
+    → (outcome (plain clubs) (place i) tape store output).answer ≡ Ok (placed (placing_in list i))
 place_sheet = sheets.place_sheet
 
 pub timed_place_sheet : (list : List ℕ) (store : TimedStore) → TimedSheet list store → (i : ℕ) → i < length list → (tape output : List ℕ)
-    → (outcome (timed clubs) (timed_calls_lem.place i) tape store output).answer ≡ placed (placing_in list i)
+    → (outcome (timed clubs) (timed_calls_lem.place i) tape store output).answer ≡ Ok (placed (placing_in list i))
 timed_place_sheet = timed-sheets.place_sheet
 
 -- Slots, counts and shares do not look at the bits, and the tallies look at bit 62 alone. Where each entry is replaced by another one, the sheet
@@ -433,8 +433,8 @@ either_shares before after store store' right right' i j a b in_order inside few
 
 -- An insert that is made, and then a delete at the same rank that is made, on any sheet, leave a sheet of the first list.
 pub back_sheet : (list : List ℕ) (store : PlainStore) → ClubSheet list store → (i e : ℕ) (tape tape' output output' : List ℕ) (n n' words words' : ℕ)
-    → (outcome (plain clubs) (insert i e) tape store output).answer ≡ Changed n words
-    → (outcome (plain clubs) (delete i) tape' (outcome (plain clubs) (insert i e) tape store output).store output').answer ≡ Changed n' words'
+    → (outcome (plain clubs) (insert i e) tape store output).answer ≡ Ok (Changed n words)
+    → (outcome (plain clubs) (delete i) tape' (outcome (plain clubs) (insert i e) tape store output).store output').answer ≡ Ok (Changed n' words')
     → ClubSheet list (outcome (plain clubs) (delete i) tape' (outcome (plain clubs) (insert i e) tape store output).store output').store
 unfolding edit_of
 back_sheet list store w i e = corrections.back_sheet (plain clubs) clubs_lawful list store w (insert_at i e) (delete_at i) i e 0 refl refl
@@ -466,9 +466,9 @@ readings_joined = readings.readings_joined (plain clubs) clubs_lawful (λ q. q) 
 -- The read of the whole is refused by cause 6 exactly when one of the two is.
 pub joined_refused : (list : List ℕ) (store : PlainStore) → ClubSheet list store → (first mid last : ℕ) → first ≤ mid → mid < last → last < length list
     → (tape tape₁ tape₂ output : List ℕ)
-    → ((plain_reading clubs store first last tape output).answer ≡ Refused OutputShort)
-    ↔ (((plain_reading clubs store first mid tape₁ (take (rank_count first mid) output)).answer ≡ Refused OutputShort)
-    ⊎ ((plain_reading clubs store (suc mid) last tape₂ (drop (rank_count first mid) output)).answer ≡ Refused OutputShort))
+    → ((plain_reading clubs store first last tape output).answer ≡ Err OutputShort)
+    ↔ (((plain_reading clubs store first mid tape₁ (take (rank_count first mid) output)).answer ≡ Err OutputShort)
+    ⊎ ((plain_reading clubs store (suc mid) last tape₂ (drop (rank_count first mid) output)).answer ≡ Err OutputShort))
 joined_refused = readings.joined_refused (plain clubs) clubs_lawful (λ q. q) (plain_itself (plain_view clubs) 1024)
 
 -- The same of timed sheets: two inserts by entry in either order, with keys that are not zero, not the same, and not in the list.
@@ -495,9 +495,9 @@ timed_either_shares before after store store' right right' a b few =
 
 -- An insert by entry and then a delete at the rank of its key.
 pub timed_back_sheet : (list : List ℕ) (store : TimedStore) → TimedSheet list store → (e : ℕ) (tape tape' output output' : List ℕ) (n n' words words' : ℕ)
-    → (outcome (timed clubs) (timed_calls_lem.insert e) tape store output).answer ≡ Changed n words
+    → (outcome (timed clubs) (timed_calls_lem.insert e) tape store output).answer ≡ Ok (Changed n words)
     → (outcome (timed clubs) (timed_calls_lem.delete (rank_of (key e) list)) tape' (outcome (timed clubs) (timed_calls_lem.insert e) tape store output).store output').answer
-    ≡ Changed n' words'
+    ≡ Ok (Changed n' words')
     → TimedSheet list
     (outcome (timed clubs) (timed_calls_lem.delete (rank_of (key e) list)) tape' (outcome (timed clubs) (timed_calls_lem.insert e) tape store output).store output').store
 unfolding plainly edit_of
@@ -530,76 +530,76 @@ timed_readings_joined = readings.readings_joined (timed clubs) clubs_timed as_pl
 
 pub timed_joined_refused : (list : List ℕ) (store : TimedStore) → TimedSheet list store → (first mid last : ℕ) → first ≤ mid → mid < last → last < length list
     → (tape tape₁ tape₂ output : List ℕ)
-    → ((timed_reading clubs store first last tape output).answer ≡ Refused OutputShort)
-    ↔ (((timed_reading clubs store first mid tape₁ (take (rank_count first mid) output)).answer ≡ Refused OutputShort)
-    ⊎ ((timed_reading clubs store (suc mid) last tape₂ (drop (rank_count first mid) output)).answer ≡ Refused OutputShort))
+    → ((timed_reading clubs store first last tape output).answer ≡ Err OutputShort)
+    ↔ (((timed_reading clubs store first mid tape₁ (take (rank_count first mid) output)).answer ≡ Err OutputShort)
+    ⊎ ((timed_reading clubs store (suc mid) last tape₂ (drop (rank_count first mid) output)).answer ≡ Err OutputShort))
 timed_joined_refused = readings.joined_refused (timed clubs) clubs_timed as_plain (timed_as_plain (timed_view clubs) 1024)
 
 -- ---- the notice board
 
 -- Of a board that is accepted, entry k of the output is what the read of rank k alone puts there,
 pub board_entry : (list : List ℕ) (store : PlainStore) → ClubSheet list store → (ranks tape output : List ℕ) (n : ℕ)
-    → (plain_board clubs store ranks tape output).answer ≡ Entries n → (k : ℕ) → k < length ranks → (tape' : List ℕ) (x : ℕ)
+    → (plain_board clubs store ranks tape output).answer ≡ Ok (Entries n) → (k : ℕ) → k < length ranks → (tape' : List ℕ) (x : ℕ)
     → (plain_reading clubs store (get_or ranks k 0) (get_or ranks k 0) tape' (x ∷ [])).output
     ≡ get_or (plain_board clubs store ranks tape output).output k 0 ∷ []
 board_entry = boards.board_entry (plain clubs) clubs_lawful (λ q. q) (plain_itself (plain_view clubs) 1024)
 
 -- and the rest of the output stays.
 pub board_rest : (list : List ℕ) (store : PlainStore) → ClubSheet list store → (ranks tape output : List ℕ) (n : ℕ)
-    → (plain_board clubs store ranks tape output).answer ≡ Entries n
+    → (plain_board clubs store ranks tape output).answer ≡ Ok (Entries n)
     → drop (length ranks) (plain_board clubs store ranks tape output).output ≡ drop (length ranks) output
 board_rest = boards.board_rest (plain clubs) clubs_lawful (λ q. q) (plain_itself (plain_view clubs) 1024)
 
 -- No ranks are accepted on any sheet, and nothing is written.
 pub board_none : (list : List ℕ) (store : PlainStore) → ClubSheet list store → (tape output : List ℕ)
-    → plain_board clubs store [] tape output ≡ record { answer = Entries 0; store = store; output = output }
+    → plain_board clubs store [] tape output ≡ record { answer = Ok (Entries 0); store = store; output = output }
 board_none = boards.board_none (plain clubs) clubs_lawful (λ q. q) (plain_itself (plain_view clubs) 1024)
 
 -- On a sheet, more than 64 ranks, or ranks that fall, are cause 16, whatever else is wrong with them.
 pub board_falls : (list : List ℕ) (store : PlainStore) → ClubSheet list store → (ranks tape output : List ℕ)
-    → (64 < length ranks) ⊎ (falls ranks ≡ true) → (plain_board clubs store ranks tape output).answer ≡ Refused BoardRanks
+    → (64 < length ranks) ⊎ (falls ranks ≡ true) → (plain_board clubs store ranks tape output).answer ≡ Err BoardRanks
 board_falls = boards.board_falls (plain clubs) clubs_lawful (λ q. q) (plain_itself (plain_view clubs) 1024)
 
 -- Other boards are refused by cause 4 exactly when the read of one of their ranks is.
 pub board_rank : (list : List ℕ) (store : PlainStore) → ClubSheet list store → (ranks tape output : List ℕ)
     → length ranks ≤ 64 → falls ranks ≡ false → (tape' : List ℕ) (x : ℕ)
-    → ((plain_board clubs store ranks tape output).answer ≡ Refused Rank)
-    ↔ ((k : ℕ) × (k < length ranks) × ((plain_reading clubs store (get_or ranks k 0) (get_or ranks k 0) tape' (x ∷ [])).answer ≡ Refused Rank))
+    → ((plain_board clubs store ranks tape output).answer ≡ Err Rank)
+    ↔ ((k : ℕ) × (k < length ranks) × ((plain_reading clubs store (get_or ranks k 0) (get_or ranks k 0) tape' (x ∷ [])).answer ≡ Err Rank))
 board_rank = boards.board_rank (plain clubs) clubs_lawful (λ q. q) (plain_itself (plain_view clubs) 1024)
 
 -- A board that is refused, on any store, leaves the output as it was.
 pub board_untouched : (store : PlainStore) (ranks tape output : List ℕ) (cause : Cause)
-    → (plain_board clubs store ranks tape output).answer ≡ Refused cause → (plain_board clubs store ranks tape output).output ≡ output
+    → (plain_board clubs store ranks tape output).answer ≡ Err cause → (plain_board clubs store ranks tape output).output ≡ output
 board_untouched = boards.board_untouched (plain clubs) clubs_lawful (λ q. q) (plain_itself (plain_view clubs) 1024)
 
 -- The same of timed sheets.
 pub timed_board_entry : (list : List ℕ) (store : TimedStore) → TimedSheet list store → (ranks tape output : List ℕ) (n : ℕ)
-    → (timed_board clubs store ranks tape output).answer ≡ Entries n → (k : ℕ) → k < length ranks → (tape' : List ℕ) (x : ℕ)
+    → (timed_board clubs store ranks tape output).answer ≡ Ok (Entries n) → (k : ℕ) → k < length ranks → (tape' : List ℕ) (x : ℕ)
     → (timed_reading clubs store (get_or ranks k 0) (get_or ranks k 0) tape' (x ∷ [])).output
     ≡ get_or (timed_board clubs store ranks tape output).output k 0 ∷ []
 timed_board_entry = boards.board_entry (timed clubs) clubs_timed as_plain (timed_as_plain (timed_view clubs) 1024)
 
 pub timed_board_rest : (list : List ℕ) (store : TimedStore) → TimedSheet list store → (ranks tape output : List ℕ) (n : ℕ)
-    → (timed_board clubs store ranks tape output).answer ≡ Entries n
+    → (timed_board clubs store ranks tape output).answer ≡ Ok (Entries n)
     → drop (length ranks) (timed_board clubs store ranks tape output).output ≡ drop (length ranks) output
 timed_board_rest = boards.board_rest (timed clubs) clubs_timed as_plain (timed_as_plain (timed_view clubs) 1024)
 
 pub timed_board_none : (list : List ℕ) (store : TimedStore) → TimedSheet list store → (tape output : List ℕ)
-    → timed_board clubs store [] tape output ≡ record { answer = Entries 0; store = store; output = output }
+    → timed_board clubs store [] tape output ≡ record { answer = Ok (Entries 0); store = store; output = output }
 timed_board_none = boards.board_none (timed clubs) clubs_timed as_plain (timed_as_plain (timed_view clubs) 1024)
 
 pub timed_board_falls : (list : List ℕ) (store : TimedStore) → TimedSheet list store → (ranks tape output : List ℕ)
-    → (64 < length ranks) ⊎ (falls ranks ≡ true) → (timed_board clubs store ranks tape output).answer ≡ Refused BoardRanks
+    → (64 < length ranks) ⊎ (falls ranks ≡ true) → (timed_board clubs store ranks tape output).answer ≡ Err BoardRanks
 timed_board_falls = boards.board_falls (timed clubs) clubs_timed as_plain (timed_as_plain (timed_view clubs) 1024)
 
 pub timed_board_rank : (list : List ℕ) (store : TimedStore) → TimedSheet list store → (ranks tape output : List ℕ)
     → length ranks ≤ 64 → falls ranks ≡ false → (tape' : List ℕ) (x : ℕ)
-    → ((timed_board clubs store ranks tape output).answer ≡ Refused Rank)
-    ↔ ((k : ℕ) × (k < length ranks) × ((timed_reading clubs store (get_or ranks k 0) (get_or ranks k 0) tape' (x ∷ [])).answer ≡ Refused Rank))
+    → ((timed_board clubs store ranks tape output).answer ≡ Err Rank)
+    ↔ ((k : ℕ) × (k < length ranks) × ((timed_reading clubs store (get_or ranks k 0) (get_or ranks k 0) tape' (x ∷ [])).answer ≡ Err Rank))
 timed_board_rank = boards.board_rank (timed clubs) clubs_timed as_plain (timed_as_plain (timed_view clubs) 1024)
 
 pub timed_board_untouched : (store : TimedStore) (ranks tape output : List ℕ) (cause : Cause)
-    → (timed_board clubs store ranks tape output).answer ≡ Refused cause → (timed_board clubs store ranks tape output).output ≡ output
+    → (timed_board clubs store ranks tape output).answer ≡ Err cause → (timed_board clubs store ranks tape output).output ≡ output
 timed_board_untouched = boards.board_untouched (timed clubs) clubs_timed as_plain (timed_as_plain (timed_view clubs) 1024)
 
 -- ---- mending
@@ -612,24 +612,24 @@ at_most_one = mending.at_most_one clubs_roomy (plain_view clubs) (plain_store cl
 -- Mending puts it in, and returns N,
 pub mended_made : (store : PlainStore) → PlainLengths clubs store → (m : Mendable (plain_view clubs) (plain_store clubs) store)
     → mended (plain_view clubs) (plain_store clubs) store
-    ≡ record { answer = Mended (length m.list); store = lay_plain clubs m.list m.shape; output = [] }
+    ≡ record { answer = Ok (Mended (length m.list)); store = lay_plain clubs m.list m.shape; output = [] }
 mended_made store right =
     mending.mended_made clubs_roomy (plain_view clubs) (plain_store clubs) clubs_lawful.view store (plain_right clubs store right)
 
 -- is refused by cause 18 exactly when there is none,
 pub mended_refused : (store : PlainStore) → PlainLengths clubs store
-    → ((mended (plain_view clubs) (plain_store clubs) store).answer ≡ Refused NotMendable) ↔ (Mendable (plain_view clubs) (plain_store clubs) store → ⊥)
+    → ((mended (plain_view clubs) (plain_store clubs) store).answer ≡ Err NotMendable) ↔ (Mendable (plain_view clubs) (plain_store clubs) store → ⊥)
 mended_refused store right =
     mending.mended_refused clubs_roomy (plain_view clubs) (plain_store clubs) clubs_lawful.view store (plain_right clubs store right)
 
 -- leaves a sheet of as many entries as it returns, of which all that is said of sheets holds,
-pub mended_sheet : (store : PlainStore) (n : ℕ) → (mended (plain_view clubs) (plain_store clubs) store).answer ≡ Mended n
+pub mended_sheet : (store : PlainStore) (n : ℕ) → (mended (plain_view clubs) (plain_store clubs) store).answer ≡ Ok (Mended n)
     → (list : List ℕ) × ClubSheet list (mended (plain_view clubs) (plain_store clubs) store).store × (length list ≡ n)
 mended_sheet = mending.mended_sheet clubs_roomy (plain_view clubs) (plain_store clubs) clubs_lawful.view
 
 -- and lets a sheet through unaltered.
 pub sheet_unaltered : (store : PlainStore) (list : List ℕ) → ClubSheet list store
-    → mended (plain_view clubs) (plain_store clubs) store ≡ record { answer = Mended (length list); store = store; output = [] }
+    → mended (plain_view clubs) (plain_store clubs) store ≡ record { answer = Ok (Mended (length list)); store = store; output = [] }
 sheet_unaltered = mending.sheet_unaltered clubs_roomy (plain_view clubs) (plain_store clubs) clubs_lawful.view
 
 -- A store of the size parameter 0 is mendable exactly when every slot is 0.
@@ -644,21 +644,21 @@ timed_at_most_one = mending.at_most_one clubs_roomy (timed_view clubs) (timed_st
 
 pub timed_mended_made : (store : TimedStore) → TimedLengths clubs store → (m : Mendable (timed_view clubs) (timed_store clubs) store)
     → mended (timed_view clubs) (timed_store clubs) store
-    ≡ record { answer = Mended (length m.list); store = lay_timed clubs m.list m.shape; output = [] }
+    ≡ record { answer = Ok (Mended (length m.list)); store = lay_timed clubs m.list m.shape; output = [] }
 timed_mended_made store right =
     mending.mended_made clubs_roomy (timed_view clubs) (timed_store clubs) clubs_timed.view store (timed_right clubs store right)
 
 pub timed_mended_refused : (store : TimedStore) → TimedLengths clubs store
-    → ((mended (timed_view clubs) (timed_store clubs) store).answer ≡ Refused NotMendable) ↔ (Mendable (timed_view clubs) (timed_store clubs) store → ⊥)
+    → ((mended (timed_view clubs) (timed_store clubs) store).answer ≡ Err NotMendable) ↔ (Mendable (timed_view clubs) (timed_store clubs) store → ⊥)
 timed_mended_refused store right =
     mending.mended_refused clubs_roomy (timed_view clubs) (timed_store clubs) clubs_timed.view store (timed_right clubs store right)
 
-pub timed_mended_sheet : (store : TimedStore) (n : ℕ) → (mended (timed_view clubs) (timed_store clubs) store).answer ≡ Mended n
+pub timed_mended_sheet : (store : TimedStore) (n : ℕ) → (mended (timed_view clubs) (timed_store clubs) store).answer ≡ Ok (Mended n)
     → (list : List ℕ) × TimedSheet list (mended (timed_view clubs) (timed_store clubs) store).store × (length list ≡ n)
 timed_mended_sheet = mending.mended_sheet clubs_roomy (timed_view clubs) (timed_store clubs) clubs_timed.view
 
 pub timed_sheet_unaltered : (store : TimedStore) (list : List ℕ) → TimedSheet list store
-    → mended (timed_view clubs) (timed_store clubs) store ≡ record { answer = Mended (length list); store = store; output = [] }
+    → mended (timed_view clubs) (timed_store clubs) store ≡ record { answer = Ok (Mended (length list)); store = store; output = [] }
 timed_sheet_unaltered = mending.sheet_unaltered clubs_roomy (timed_view clubs) (timed_store clubs) clubs_timed.view
 
 pub timed_mendable_zero : (store : TimedStore) → size_of store.sheet.sheet ≡ 0

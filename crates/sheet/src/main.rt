@@ -1,12 +1,13 @@
 // The program `sheet`: reads frames from standard input, a line each, and answers them on standard output.
 #![tactic(auto)]
 
-ghost use Rattle.std.specs.Prelude.{◌≡◌, false, ◌<◌, ◌≤◌, length, take};
+ghost use Rattle.std.specs.Prelude.{◌≡◌, IfOk};
 ghost use Rattle.call_outcomes.specs.Plain.{plain_store_of};
 ghost use Rattle.frame_answers.specs.Gives.{kept_of};
 ghost use Rattle.frame_chunks.specs.Chunk.{standing, end, chunk_outcome};
 ghost use Rattle.sheet.specs.Within.{Within};
 
+use std::io;
 use std::io::Read;
 
 // The slots of the store.
@@ -30,33 +31,17 @@ const INPUT: usize = 65536;
 // The output has room for so many bytes.
 const OUTPUT: usize = 262144;
 
-// How many bytes of the line that is still open and words of the tape are held, and whether a write has failed.
+// How many bytes of the line that is still open and words of the tape are held.
 #[derive(Clone, Copy)]
 struct State {
     have: usize,
     waiting: usize,
-    failed: bool,
 }
 
-// How many bytes of the input were read, and whether it has ended.
-#[derive(Clone, Copy)]
-struct Chunk {
-    bytes: usize,
-    last: bool,
-}
-
-// Writes the first n bytes of the output, and tells whether they are written.
-fn write_front(rt: &impl Print, output: &[u8], n: usize) -> bool
-    requires { n ≤ length output.now }
-{
-    rt.write_all(&output[..n]).is_ok()
-}
-
-// Answers the lines that end in the first n bytes of the input, and writes the answers; stops where a write has failed.
+// Answers the lines that end in the chunk, and writes the answers; an error where a write fails.
 fn answer_chunk(
     rt: &impl Print,
-    input: &[u8],
-    n: usize,
+    chunk: &[u8],
     line: &mut [u8; LINE],
     slots: &mut [u64; SLOTS],
     counts: &mut [u16; COUNTS],
@@ -64,79 +49,30 @@ fn answer_chunk(
     tape: &mut [u32; TAPE],
     output: &mut [u8; OUTPUT],
     before: State,
-) -> State
-    requires chunk { n ≤ length input.now }
+) -> io::Result<State>
     requires held { Within before }
-    ensures { Within result × (result.failed ≡ false
-        → end line.new result.have (kept_of (plain_store_of slots.new counts.new tallies.new) tape.new result.waiting)
-        ≡ (chunk_outcome (take n input.now)
-        (standing 0 line.old before.have (kept_of (plain_store_of slots.old counts.old tallies.old) tape.old before.waiting))).end) }
+    ensures { IfOk result (λ after. Within after
+        × (end line.new after.have (kept_of (plain_store_of slots.new counts.new tallies.new) tape.new after.waiting)
+        ≡ (chunk_outcome chunk.now
+        (standing 0 line.old before.have (kept_of (plain_store_of slots.old counts.old tallies.old) tape.old before.waiting))).end)) }
 {
-    let chunk = &input[..n];
     let mut have = before.have;
     let mut waiting = before.waiting;
     let mut from = 0;
-    while from < n {
+    while from < chunk.len() {
         let reached = frame_chunks::answer_lines(
             chunk, from, line, have, slots, counts, tallies, tape, waiting, output,
         );
         have = reached.have;
         waiting = reached.waiting;
         from = reached.next;
-        let is_written = write_front(rt, output, reached.bytes);
-        if !is_written {
-            return State {
-                have: have,
-                waiting: waiting,
-                failed: true,
-            };
-        }
+        rt.write_all(&output[..reached.bytes])?;
     }
-    State {
-        have: have,
-        waiting: waiting,
-        failed: false,
-    }
+    Ok(State { have, waiting })
 }
 
-// Reads a chunk of the input. The end of the input is the last one: the LF that ends a line of `have` bytes, or no byte where none are held.
-fn read_chunk(reader: &mut impl Read, input: &mut [u8], have: usize) -> Chunk
-    requires { 1 ≤ length input.old }
-    ensures { result.bytes ≤ length input.old }
-{
-    let bytes = reader.read(input).unwrap_or(0);
-    if 0 < bytes {
-        return Chunk {
-            bytes: bytes,
-            last: false,
-        };
-    }
-    if have == 0 {
-        return Chunk {
-            bytes: 0,
-            last: true,
-        };
-    }
-    input[0] = b'\n';
-    Chunk {
-        bytes: 1,
-        last: true,
-    }
-}
-
-// How many turns are left: none where the input has ended or a write has failed.
-fn turns_left(turns: u64, last: bool, failed: bool) -> u64
-    requires { 0 < turns }
-    ensures { result < turns }
-{
-    if last || failed {
-        return 0;
-    }
-    turns - 1
-}
-
-// Answers every line of the input, and stops where a write has failed. The answers to a chunk are written before the next one is read. A
-// proved loop has to end, so this one counts its turns down, from a number that no run uses up.
+// Answers every line of the input; an error where a write fails. The answers to a chunk are written before the next one is read. The end of
+// the input ends a line that is still open. A proved loop has to end, so this one has a number of turns that no run uses up.
 fn run(
     rt: &(impl Input + Print),
     slots: &mut [u64; SLOTS],
@@ -146,33 +82,27 @@ fn run(
     line: &mut [u8; LINE],
     input: &mut [u8; INPUT],
     output: &mut [u8; OUTPUT],
-) {
+) -> io::Result<()> {
     let mut state = State {
         have: 0,
         waiting: 0,
-        failed: false,
     };
     let mut reader = rt.reader();
-    let mut turns = u64::MAX;
-    while 0 < turns {
-        let chunk = read_chunk(&mut reader, input, state.have);
-        state = answer_chunk(
-            rt,
-            input,
-            chunk.bytes,
-            line,
-            slots,
-            counts,
-            tallies,
-            tape,
-            output,
-            state,
-        );
-        turns = turns_left(turns, chunk.last, state.failed);
+    for _ in 0..u64::MAX {
+        let bytes = reader.read(input).unwrap_or(0);
+        if bytes == 0 {
+            break;
+        }
+        let chunk = &input[..bytes];
+        state = answer_chunk(rt, chunk, line, slots, counts, tallies, tape, output, state)?;
     }
+    if 0 < state.have {
+        answer_chunk(rt, b"\n", line, slots, counts, tallies, tape, output, state)?;
+    }
+    Ok(())
 }
 
-// A store of zeros is the empty sheet, and no word of the tape waits.
+// A store of zeros is the empty sheet, and no word of the tape waits. Where a write fails the program ends, as it does at the end of the input.
 fn main(rt: HostRuntime) {
     let mut slots = [0u64; SLOTS];
     let mut counts = [0u16; COUNTS];
@@ -181,7 +111,7 @@ fn main(rt: HostRuntime) {
     let mut line = [0u8; LINE];
     let mut input = [0u8; INPUT];
     let mut output = [0u8; OUTPUT];
-    run(
+    let _ = run(
         &rt,
         &mut slots,
         &mut counts,

@@ -1,5 +1,5 @@
 -- Clearing zeroes a store of the right lengths.
-use Rattle.std.specs.Prelude.{◌≡◌, true, List, [], ◌++◌, ℕ, ◌-◌, length, take, drop, replicate}
+use Rattle.std.specs.Prelude.{Ok, ◌≡◌, true, List, [], ◌++◌, ℕ, ◌-◌, length, take, drop, replicate}
 use Rattle.std.proofs.Common.{sym, ◌∙◌, ap, append-nil, le_of_eq, drop_of_length-le}
 use Rattle.std.proofs.Math.Nat.{sub-zero}
 use Rattle.store_layout.specs.declared.Capacity.{Capacity}
@@ -31,7 +31,7 @@ module _ (cap : Capacity) (slots counts tallies : List ℕ) {slots' counts' tall
       let no-tally : tallies' ≡ (lay_plain cap empty.list empty.shape).slice = z ∙ sym (empty_tallies cap.counts) in
       λ i. plain_store_of (no_entry i) (no-count i) (no-tally i)
 
-  pub clear_done : plain_outcome_of Cleared slots' counts' tallies' [] ≡ outcome (plain cap) clear [] (plain_store_of slots counts tallies) []
+  pub clear_done : plain_outcome_of (Ok Cleared) slots' counts' tallies' [] ≡ outcome (plain cap) clear [] (plain_store_of slots counts tallies) []
   clear_done =
-      ap (λ (store : PlainStore). record { answer = Cleared; store = store; output = [] }) clear_laid
+      ap (λ (store : PlainStore). record { answer = Ok Cleared; store = store; output = [] }) clear_laid
       ∙ clear_outcome (plain cap) (plain_store_of slots counts tallies) [] right

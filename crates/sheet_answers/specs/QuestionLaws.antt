@@ -1,5 +1,5 @@
 -- The questions about plain sheets of any capacity, by what their stores were found to hold.
-use Rattle.std.specs.Prelude.{◌≡◌, List, [], ℕ}
+use Rattle.std.specs.Prelude.{Result, ◌≡◌, List, [], ℕ}
 use Rattle.std.proofs.Common.{sym, ◌∙◌, ap}
 use Rattle.tree_sizes.specs.Sizes.{height}
 use Rattle.store_order.specs.CountOrder.{number_order}
@@ -18,6 +18,7 @@ use Rattle.call_outcomes.specs.PlainCallLaws.{plain_itself}
 use Rattle.call_outcomes.specs.Untallied.{untallied_view}
 use Rattle.call_outcomes.proofs.SliceLaws.{slice_holds}
 use Rattle.call_outcomes.specs.Plain.{tally_slice, plain_view, plain, PlainStore, plain_store_of, plain_outcome_of}
+use Rattle.call_outcomes.specs.declared.Cause.{Cause}
 use Rattle.call_open.specs.declared.Opened.{Opened}
 use Rattle.call_open.specs.Opening.{plain_numbers, Opening, OpenedStore}
 use Rattle.call_open.specs.AdmittedLaws.{opened_store, plain_decoded, plain_sheet, plain_tallies}
@@ -26,7 +27,7 @@ use Rattle.call_questions.proofs.AskedLaws as questions
 use Rattle.call_questions.specs.StartLaws.{decoded_list, laid}
 use Rattle.sheet_open.specs.PlainOpening.{PlainOpening}
 
-module _ {cap : Capacity} (ready : CapacityReady cap) {slots counts tallies work : List ℕ} {found : Opened}
+module _ {cap : Capacity} (ready : CapacityReady cap) {slots counts tallies work : List ℕ} {found : Result Opened Cause}
     (w : Opening (plain_view cap) plain_numbers (plain_store_of slots counts tallies) found work) where
   abbrev store : PlainStore
   store = plain_store_of slots counts tallies
@@ -36,7 +37,7 @@ module _ {cap : Capacity} (ready : CapacityReady cap) {slots counts tallies work
     cap = cap;
     counts = counts;
     ready = ready;
-    sheet = λ n m e. plain_sheet (opened_store (plain_view cap) plain_numbers store w n m e);
+    sheet = λ sheet e. plain_sheet (opened_store (plain_view cap) plain_numbers store w sheet e);
   }
 
   lists : (c : Contents) → store_decision (plain_view cap) store ≡ accept c → c.list ≡ nonzero slots
@@ -45,12 +46,12 @@ module _ {cap : Capacity} (ready : CapacityReady cap) {slots counts tallies work
       decoded_list cap store.sheet c (plain_decoded cap store.sheet c t.decided)
 
   module _ (q : Question) where
-    pub asked_outcome : (tape output : List ℕ) (answer : Answer) (output' : List ℕ)
+    pub asked_outcome : (tape output : List ℕ) (answer : Result Answer Cause) (output' : List ℕ)
         → record { answer = answer; output = output' } ≡ asked q found (nonzero slots) output
         → plain_outcome_of answer slots counts tallies output' ≡ outcome (plain cap) (ask q) tape store output
     asked_outcome = questions.asked_outcome (plain cap) store w.found lists (plain_itself (plain_view cap) cap.entries q)
 
-    pub answered_outcome : (answer : Answer) → Answers q found answer → written_for q (nonzero slots) ≡ [] → (tape : List ℕ)
+    pub answered_outcome : (answer : Result Answer Cause) → Answers q found answer → written_for q (nonzero slots) ≡ [] → (tape : List ℕ)
         → plain_outcome_of answer slots counts tallies [] ≡ outcome (plain cap) (ask q) tape store []
     answered_outcome answer a nothing = questions.answered_outcome (plain cap) store w.found lists (plain_itself (plain_view cap) cap.entries q) nothing answer a
 
@@ -67,9 +68,9 @@ numbers_tallied {cap} ready {tallies = tallies} o is =
     ∙ ap (number_order (height c.shape.size)) (plain_tallies o)
     ∙ numbered_tallies cap ready.roomy c.list c.shape (laid (plain_sheet o)).0
 
-pub tallied : {cap : Capacity} → (ready : CapacityReady cap) → {slots counts tallies work numbers : List ℕ} {found : Opened}
+pub tallied : {cap : Capacity} → (ready : CapacityReady cap) → {slots counts tallies work numbers : List ℕ} {found : Result Opened Cause}
     → PlainOpening cap (plain_store_of slots counts tallies) found work numbers → Tallied found slots work numbers
 tallied {cap} ready {slots} {counts} {tallies} w = record {
   readable = readable ready w.opening;
-  tallies = λ n m e. numbers_tallied ready (opened_store (plain_view cap) plain_numbers (plain_store_of slots counts tallies) w.opening n m e) (w.tallied e);
+  tallies = λ sheet e. numbers_tallied ready (opened_store (plain_view cap) plain_numbers (plain_store_of slots counts tallies) w.opening sheet e) (w.tallied e);
 }

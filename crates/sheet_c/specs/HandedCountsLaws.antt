@@ -1,7 +1,8 @@
 -- When a conversion is handed over.
-use Rattle.std.specs.Prelude.{◌≡◌, List, ℕ, ◌≤◌, ◌<◌, length}
+use Rattle.std.specs.Prelude.{Result, ◌≡◌, List, ℕ, ◌≤◌, ◌<◌, length}
 use Rattle.std.proofs.Math.Path.{sym}
 use Rattle.base.specs.CaseLaws.{if_lt_yes, if_lt_no}
+use Rattle.call_outcomes.specs.declared.Cause.{Cause}
 use Rattle.call_outcomes.specs.declared.Returned.{Returned}
 use Rattle.call_outcomes.specs.declared.Answer.{Answer}
 use Rattle.call_outcomes.specs.Returns.{returned}
@@ -17,7 +18,7 @@ module _ (convert : List ℕ → List ℕ) (counts answer : List ℕ) where
   conversion_short l = sym (if_lt_yes (length answer) 2 _ _ l)
 
   -- an answer slice with room
-  pub conversion_handed : {given : Answer} {counts' : List ℕ} {back : Returned} {r : ℕ} {answer' : List ℕ} → 2 ≤ length answer
+  pub conversion_handed : {given : Result Answer Cause} {counts' : List ℕ} {back : Returned} {r : ℕ} {answer' : List ℕ} → 2 ≤ length answer
       → record { answer = given; counts = counts' } ≡ conversion clubs convert counts
       → back ≡ returned given → (r ≡ back.number) × (answer' ≡ filled 2 back answer)
       → record { number = r; counts = counts'; answer = answer' } ≡ handed_conversion convert counts answer

@@ -28,11 +28,7 @@ pub extern "C" fn sheet_clear(
     if answer.len() < 2 {
         return 255;
     }
-    call_handed::hand(
-        sheet_calls::clear(slots, counts, tallies).returned(),
-        2,
-        answer,
-    )
+    call_handed::hand(sheet_calls::clear(slots, counts, tallies).into(), 2, answer)
 }
 
 // Makes the change of the list, with the entry of an insert.
@@ -52,7 +48,7 @@ fn hand_change(
         return 255;
     }
     call_handed::hand(
-        sheet_calls::make_change(slots, counts, tallies, change, entry, tape).returned(),
+        sheet_calls::make_change(slots, counts, tallies, change, entry, tape).into(),
         2,
         answer,
     )
@@ -111,7 +107,7 @@ pub extern "C" fn sheet_read(
         return 255;
     }
     call_handed::hand(
-        sheet_calls::read(slots, counts, tallies, first, last, output).returned(),
+        sheet_calls::read(slots, counts, tallies, first, last, output).into(),
         2,
         answer,
     )
@@ -133,7 +129,7 @@ pub extern "C" fn sheet_place(
         return 255;
     }
     call_handed::hand(
-        sheet_calls::place(slots, counts, tallies, rank).returned(),
+        sheet_calls::place(slots, counts, tallies, rank).into(),
         3,
         answer,
     )
@@ -153,11 +149,7 @@ pub extern "C" fn sheet_check(
     if answer.len() < 2 {
         return 255;
     }
-    call_handed::hand(
-        sheet_calls::check(slots, counts, tallies).returned(),
-        2,
-        answer,
-    )
+    call_handed::hand(sheet_calls::check(slots, counts, tallies).into(), 2, answer)
 }
 
 // Counts in the order of the range numbers, put into the tree order.
@@ -169,7 +161,7 @@ pub extern "C" fn sheet_to_tree_order(counts: &mut [u16], answer: &mut [u64]) ->
     if answer.len() < 2 {
         return 255;
     }
-    call_handed::hand(sheet_orders::to_tree_order(counts).returned(), 2, answer)
+    call_handed::hand(sheet_orders::to_tree_order(counts).into(), 2, answer)
 }
 
 // Counts in the tree order, put back into the order of the range numbers.
@@ -181,7 +173,7 @@ pub extern "C" fn sheet_to_number_order(counts: &mut [u16], answer: &mut [u64]) 
     if answer.len() < 2 {
         return 255;
     }
-    call_handed::hand(sheet_orders::to_number_order(counts).returned(), 2, answer)
+    call_handed::hand(sheet_orders::to_number_order(counts).into(), 2, answer)
 }
 
 // Copies the entries at the ranks, at most 64 that do not fall, to the front of the output.
@@ -201,7 +193,7 @@ pub extern "C" fn sheet_board(
         return 255;
     }
     call_handed::hand(
-        sheet_calls::board(slots, counts, tallies, ranks, output).returned(),
+        sheet_calls::board(slots, counts, tallies, ranks, output).into(),
         2,
         answer,
     )
@@ -222,9 +214,5 @@ pub extern "C" fn sheet_mend(
     if answer.len() < 2 {
         return 255;
     }
-    call_handed::hand(
-        sheet_mend::mend(slots, counts, tallies).returned(),
-        2,
-        answer,
-    )
+    call_handed::hand(sheet_mend::mend(slots, counts, tallies).into(), 2, answer)
 }

@@ -8,24 +8,23 @@ ghost use Rattle.call_outcomes.specs.PlainCalls as call;
 ghost use Rattle.call_outcomes.specs.Plain.{plain, plain_store_of, plain_outcome_of};
 ghost use Rattle.call_outcomes.specs.Clubs.{clubs};
 
-use call_open::Opened;
 use call_outcomes::{Answer, Cause};
 use tree_rules::Change;
 
 // Makes any contents the empty sheet.
-pub fn clear(slots: &mut [u64], counts: &mut [u16], tallies: &mut [u16]) -> Answer
+pub fn clear(slots: &mut [u64], counts: &mut [u16], tallies: &mut [u16]) -> Result<Answer, Cause>
     ensures { plain_outcome_of result slots.new counts.new tallies.new []
         ≡ outcome (plain clubs) clear [] (plain_store_of slots.old counts.old tallies.old) [] }
 {
     let cap = sheet_clubs::capacity();
     if !sheet_open::right_lengths(cap, slots.len(), counts.len(), tallies.len()) {
-        return Answer::Refused(Cause::Lengths);
+        return Err(Cause::Lengths);
     }
     let zeros = [0u32; 256];
     store_slices::zero_slots(slots, 0, 4224);
     store_widths::narrow(&zeros, counts);
     store_widths::narrow(&zeros, tallies);
-    Answer::Cleared
+    Ok(Answer::Cleared)
 }
 
 // Makes the change of the list, with the entry of an insert.
@@ -36,29 +35,30 @@ pub fn make_change(
     change: Change,
     entry: u64,
     tape: &[u32],
-) -> Answer
+) -> Result<Answer, Cause>
     ensures { plain_outcome_of result slots.new counts.new tallies.new []
         ≡ outcome (plain clubs) (call.changing change entry) tape.now (plain_store_of slots.old counts.old tallies.old) [] }
 {
     let mut counts32 = [0u32; 256];
     let mut work = [0u32; 256];
     let opened = sheet_clubs::open(slots, counts, tallies, &mut counts32, &mut work);
-    match call_open::admit_change(opened, 1024, change, entry) {
-        Opened::Sheet { n, m } => sheet_clubs_change::make(
-            slots,
-            counts,
-            tallies,
-            &mut counts32,
-            &mut work,
-            n,
-            m,
-            change,
-            entry,
-            tape,
-        )
-        .answer(),
-        Opened::Refused(cause) => Answer::Refused(cause),
-    }
+    let sheet = call_open::admit_change(opened, 1024, change, entry)?;
+    let made = sheet_clubs_change::make(
+        slots,
+        counts,
+        tallies,
+        &mut counts32,
+        &mut work,
+        sheet,
+        change,
+        entry,
+        tape,
+    )
+    .ok_or(Cause::TapeEnded)?;
+    Ok(Answer::Changed {
+        n: made.n,
+        words: made.words,
+    })
 }
 
 // Puts the entry in at the rank.
@@ -69,7 +69,7 @@ pub fn insert(
     rank: usize,
     entry: u64,
     tape: &[u32],
-) -> Answer
+) -> Result<Answer, Cause>
     ensures { plain_outcome_of result slots.new counts.new tallies.new []
         ≡ outcome (plain clubs) (call.insert rank entry) tape.now (plain_store_of slots.old counts.old tallies.old) [] }
 {
@@ -83,7 +83,7 @@ pub fn delete(
     tallies: &mut [u16],
     rank: usize,
     tape: &[u32],
-) -> Answer
+) -> Result<Answer, Cause>
     ensures { plain_outcome_of result slots.new counts.new tallies.new []
         ≡ outcome (plain clubs) (call.delete rank) tape.now (plain_store_of slots.old counts.old tallies.old) [] }
 {
@@ -98,7 +98,7 @@ pub fn read(
     first: usize,
     last: usize,
     output: &mut [u64],
-) -> Answer
+) -> Result<Answer, Cause>
     ensures { plain_outcome_of result slots.now counts.now tallies.now output.new
         ≡ outcome (plain clubs) (call.read first last (length output.old)) [] (plain_store_of slots.now counts.now tallies.now) output.old }
 {
@@ -108,7 +108,7 @@ pub fn read(
 }
 
 // The place of the entry at the rank: that of her tied group, the sum of its places and the number of its boats; a retired boat has none.
-pub fn place(slots: &[u64], counts: &[u16], tallies: &[u16], rank: usize) -> Answer
+pub fn place(slots: &[u64], counts: &[u16], tallies: &[u16], rank: usize) -> Result<Answer, Cause>
     ensures { plain_outcome_of result slots.now counts.now tallies.now []
         ≡ outcome (plain clubs) (call.place rank) [] (plain_store_of slots.now counts.now tallies.now) [] }
 {
@@ -119,7 +119,7 @@ pub fn place(slots: &[u64], counts: &[u16], tallies: &[u16], rank: usize) -> Ans
 }
 
 // The number of entries of a sheet.
-pub fn check(slots: &[u64], counts: &[u16], tallies: &[u16]) -> Answer
+pub fn check(slots: &[u64], counts: &[u16], tallies: &[u16]) -> Result<Answer, Cause>
     ensures { plain_outcome_of result slots.now counts.now tallies.now []
         ≡ outcome (plain clubs) call.check [] (plain_store_of slots.now counts.now tallies.now) [] }
 {
@@ -135,7 +135,7 @@ pub fn board(
     tallies: &[u16],
     ranks: &[u64],
     output: &mut [u64],
-) -> Answer
+) -> Result<Answer, Cause>
     ensures { plain_outcome_of result slots.now counts.now tallies.now output.new
         ≡ outcome (plain clubs) (call.board ranks.now (length output.old)) [] (plain_store_of slots.now counts.now tallies.now) output.old }
 {

@@ -2,7 +2,7 @@
 // read and a board also its output of two elements.
 #![tactic(auto)]
 
-use call_outcomes::Answer;
+use call_outcomes::{Answer, Cause, Returned};
 use std::io;
 
 // The slots of the store.
@@ -12,8 +12,8 @@ const SLOTS: usize = 4224;
 const COUNTS: usize = 256;
 
 // Prints a line: the name of a call, the number and the two values that it returned.
-fn show(rt: &impl Print, name: &str, answer: Answer) -> io::Result<()> {
-    let back = answer.returned();
+fn show(rt: &impl Print, name: &str, answer: Result<Answer, Cause>) -> io::Result<()> {
+    let back = Returned::from(answer);
     println!(rt; "{name} {} {} {}", back.number, back.first, back.second)
 }
 
@@ -200,10 +200,8 @@ fn fill(
     tallies: &mut [u16; COUNTS],
     tape: &[u32],
 ) {
-    let mut entry = 3u64;
-    while entry <= 1024 {
-        sheet_calls::insert(slots, counts, tallies, 0, entry, tape);
-        entry += 1;
+    for entry in 3..=1024 {
+        let _ = sheet_calls::insert(slots, counts, tallies, 0, entry, tape);
     }
 }
 

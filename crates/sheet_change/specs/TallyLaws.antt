@@ -1,5 +1,5 @@
 -- A change of a plain sheet: that of its slots and counts, and then the tallies of the sheet that is left.
-use Rattle.std.specs.Prelude.{◌≡◌, refl, true, ◌&&◌, not, ◌≢◌, List, [], ◌∷◌, ℕ, ◌*◌, ◌^◌, ◌≤◌, eqb, get_or, drop}
+use Rattle.std.specs.Prelude.{◌≡◌, refl, true, ◌&&◌, not, ◌≢◌, List, [], ◌∷◌, ℕ, ◌*◌, ◌^◌, ◌≤◌, eqb, get_or, drop, Option, Some, None, Ok, Err}
 use Rattle.std.proofs.Common.{sym, ◌∙◌, subst, arith, eqb-true}
 use Rattle.std.proofs.Math.Path.{ap}
 use Rattle.std.proofs.Math.Option.{none}
@@ -7,7 +7,7 @@ use Rattle.std.proofs.lemmas.Bool.{not-true}
 use Rattle.std.proofs.Math.ListN.{length}
 use Rattle.base.specs.BoolLaws.{and_both}
 use Rattle.draw_shares.specs.Tape.{run_at}
-use Rattle.tree_sizes.specs.Sizes.{height, slots}
+use Rattle.tree_sizes.specs.Sizes.{height}
 use Rattle.tree_rules.specs.declared.Change.{Change}
 use Rattle.tree_rules.specs.Compare.{count_after}
 use Rattle.tree_rules.specs.Rules.{update}
@@ -15,7 +15,6 @@ use Rattle.tree_rules.specs.Tree.{Shape}
 use Rattle.tree_counts.specs.declared.Part.{Part}
 use Rattle.tree_counts.specs.Counts.{shape_in}
 use Rattle.tree_walk.specs.declared.Updated.{Updated}
-use Rattle.tree_walk.specs.declared.Updated.TheVariants as updated
 use Rattle.tree_walk.specs.Updated.{UpdatedAs}
 use Rattle.store_order.specs.CountOrder.{count_order, number_order}
 use Rattle.store_order.proofs.CountOrderLaws.{count_number}
@@ -30,9 +29,9 @@ use Rattle.store_tallies.specs.Tallies.{range_tallies, lay_tallies}
 use Rattle.store_tallies.specs.TalliesIn.{TalliesIn}
 use Rattle.store_tallies.specs.LayLaws.{numbered_tallies}
 use Rattle.store_tallies.specs.LaidLaws.{tallies_laid}
-use Rattle.call_outcomes.specs.declared.Answer.TheVariants.{Changed, Refused}
+use Rattle.call_outcomes.specs.declared.Answer.TheVariants.{Changed}
 use Rattle.call_outcomes.specs.declared.Cause.TheVariants.{TapeEnded}
-use Rattle.call_outcomes.specs.Kind.{applied, change}
+use Rattle.call_outcomes.specs.Kind.{applied}
 use Rattle.call_outcomes.specs.Causes.{accept, store_decision, looked_at, argument_cause, decision}
 use Rattle.call_outcomes.specs.Outcome.{outcome}
 use Rattle.call_outcomes.specs.DecisionLaws.{accepted, accepted_by}
@@ -96,15 +95,15 @@ module _ {cap : Capacity} (ready : CapacityReady cap) {change : Change} {e n m :
 
   module _ (tape : List ℕ) where
     pub plain_ended : {slots' counts' : List ℕ}
-        → outcome_of (Refused TapeEnded) slots' counts' [] ≡ outcome (untallied cap) (changing change e) tape (store_of slots counts) []
-        → plain_outcome_of (Refused TapeEnded) slots' counts' tallies [] ≡ outcome (plain cap) (changing change e) tape store []
+        → outcome_of (Err TapeEnded) slots' counts' [] ≡ outcome (untallied cap) (changing change e) tape (store_of slots counts) []
+        → plain_outcome_of (Err TapeEnded) slots' counts' tallies [] ≡ outcome (plain cap) (changing change e) tape store []
     plain_ended is =
         slice_ended (untallied cap) (tally_slice cap) (plain_calls cap.entries) (plain_change change e) (plain_change change e) tape store c
         sheet_decided p.admitted.decided refl _ is
 
-    module _ (answer : Updated) (work' : List ℕ)
+    module _ (answer : Option Updated) (work' : List ℕ)
         (w : UpdatedAs change n (shape_in work) (run_at (update change n (shape_in work)) tape 0) answer (length work) work')
-        (m' : ℕ) (part : Part) (next : ℕ) (done : answer ≡ updated.Done m' part next) where
+        (m' : ℕ) (part : Part) (next : ℕ) (done : answer ≡ Some (record { m = m'; part = part; next = next })) where
       abbrev d : DrawnChange
       d = record { old = m; new = m'; part = part; change = change; entry = e }
 
@@ -210,12 +209,12 @@ module _ {cap : Capacity} (ready : CapacityReady cap) {change : Change} {e n m :
 
         pub plain_made_by_slots : (after : ℕ) → after ≡ count_after change n → {tallies' : List ℕ}
             → ((words : List ℕ) → TalliesIn m' slots' words → length words ≡ length tallies → tallies' ≡ count_order (height m') words)
-            → plain_outcome_of (Changed after next) slots' counts' tallies' [] ≡ outcome (plain cap) (changing change e) tape store []
+            → plain_outcome_of (Ok (Changed after next)) slots' counts' tallies' [] ≡ outcome (plain cap) (changing change e) tape store []
         plain_made_by_slots after number is-tallies = rw number (left.sliced_outcome _ (by_slots is-tallies))
 
         -- no boat was retired, and none comes in
         pub plain_made_by_counts : (eqb (get_or tallies 1 0) n && not (retired_bit e)) ≡ true → (after : ℕ) → after ≡ count_after change n → {tallies' : List ℕ}
-            → tallies' ≡ 0 ∷ drop 1 counts' → plain_outcome_of (Changed after next) slots' counts' tallies' [] ≡ outcome (plain cap) (changing change e) tape store []
+            → tallies' ≡ 0 ∷ drop 1 counts' → plain_outcome_of (Ok (Changed after next)) slots' counts' tallies' [] ≡ outcome (plain cap) (changing change e) tape store []
         plain_made_by_counts scoring after number is-tallies =
             let both = and_both (eqb (get_or tallies 1 0) n) (not (retired_bit e)) scoring in
             let all : get_or (lay_tallies cap.counts c.list c.shape) 1 0 ≡ length c.list

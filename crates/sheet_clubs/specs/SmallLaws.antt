@@ -1,5 +1,5 @@
 -- Counts and tallies of the clubs' sheets have 16 bits.
-use Rattle.std.specs.Prelude.{◌≡◌, List, [], ℕ, ◌^◌, ◌<◌, length}
+use Rattle.std.specs.Prelude.{Ok, ◌≡◌, List, [], ℕ, ◌^◌, ◌<◌, length}
 use Rattle.std.proofs.Common.{sym, arith}
 use Rattle.std.proofs.Math.Path.{subst}
 use Rattle.base.specs.Lists.{Every}
@@ -65,7 +65,7 @@ module _ (change : Change) (e : ℕ) (tape : List ℕ) (store : PlainStore) (bef
       subst Small (sym old.2) (sheet_small before.list before.shape (contents_of_lem clubs _ _ old.0 old.1))
 
   pub changed_small : (n words : ℕ) {slots counts tallies : List ℕ}
-      → plain_outcome_of (Changed n words) slots counts tallies [] ≡ outcome (plain clubs) (changing change e) tape store [] → Small (plain_store_of slots counts tallies)
+      → plain_outcome_of (Ok (Changed n words)) slots counts tallies [] ≡ outcome (plain clubs) (changing change e) tape store [] → Small (plain_store_of slots counts tallies)
   changed_small n words is =
       let m = change_made (plain clubs) (plain_change change e) tape store before decided clubs_lawful n words _ is in
       subst Small (sym m.laid) (sheet_small _ m.shape (contents_of_lem clubs _ m.shape m.is_list m.is_shape))

@@ -30,23 +30,17 @@ pub fn capacity() -> Capacity
     }
 }
 
-// The tallies are those of the sheet of n entries in slots and counts, whose counts the work array has by range number. Where the tally of the
-// whole sheet is n no boat may be retired, and the tallies are the counts.
-fn is_tallied(
-    n: usize,
-    size: Size,
-    slots: &[u64],
-    counts32: &[u32],
-    work: &[u32],
-    tallies: &[u16],
-) -> bool
-    requires sheet { OpenedSheet clubs (store_of slots.now counts32.now) n size.m work.now }
+// The tallies are those of the sheet in slots and counts, whose counts the work array has by range number. Where the tally of the
+// whole sheet is the number of its entries no boat may be retired, and the tallies are the counts.
+fn is_tallied(sheet: Opened, slots: &[u64], counts32: &[u32], work: &[u32], tallies: &[u16]) -> bool
+    requires sheet { OpenedSheet clubs (store_of slots.now counts32.now) sheet.n sheet.m work.now }
     requires tallies { length tallies.now ≡ 256 }
     ensures { (c : Contents) → decode clubs (store_of slots.now counts32.now) ≡ some c
         → result ≡ slice_test (tally_slice clubs) tallies.now c }
 {
+    let size = Size { m: sheet.m };
     let root = tallies[1] as usize;
-    if root == n {
+    if root == sheet.n {
         if !store_scoring::none_retired(slots, size.slots()) {
             return false;
         }
@@ -66,29 +60,30 @@ pub fn open(
     tallies: &[u16],
     counts32: &mut [u32],
     work: &mut [u32],
-) -> Opened
+) -> Result<Opened, Cause>
     requires counts32 { length counts32.old ≡ 256 }
     requires work { length work.old ≡ 256 }
     ensures { Opening (plain_view clubs) plain_numbers (plain_store_of slots.now counts.now tallies.now) result work.new
         × Widened result counts.now counts32.new }
 {
     if !sheet_open::right_lengths(capacity(), slots.len(), counts.len(), tallies.len()) {
-        return Opened::Refused(Cause::Lengths);
+        return Err(Cause::Lengths);
     }
     store_widths::widen(counts, counts32);
-    match call_open::examine(capacity(), slots, counts32, work) {
-        Opened::Sheet { n, m } => {
-            if !is_tallied(n, Size { m: m }, slots, counts32, work, tallies) {
-                return Opened::Refused(Cause::NotASheet);
-            }
-            Opened::Sheet { n: n, m: m }
-        }
-        Opened::Refused(cause) => Opened::Refused(cause),
+    let sheet = call_open::examine(capacity(), slots, counts32, work)?;
+    if !is_tallied(sheet, slots, counts32, work, tallies) {
+        return Err(Cause::NotASheet);
     }
+    Ok(sheet)
 }
 
 // Looks at slots, counts and tallies: where they are a plain sheet, `work` has the counts by range number; or cause 1 or 2 decides.
-pub fn examine(slots: &[u64], counts: &[u16], tallies: &[u16], work: &mut [u32]) -> Opened
+pub fn examine(
+    slots: &[u64],
+    counts: &[u16],
+    tallies: &[u16],
+    work: &mut [u32],
+) -> Result<Opened, Cause>
     requires { length work.old ≡ 256 }
     ensures { Opening (plain_view clubs) plain_numbers (plain_store_of slots.now counts.now tallies.now) result work.new }
 {
@@ -104,13 +99,13 @@ pub fn examine_numbers(
     tallies: &[u16],
     work: &mut [u32],
     numbers: &mut [u32],
-) -> Opened
+) -> Result<Opened, Cause>
     requires work { length work.old ≡ 256 }
     requires numbers { length numbers.old ≡ 256 }
     ensures { PlainOpening clubs (plain_store_of slots.now counts.now tallies.now) result work.new numbers.new }
 {
     if !sheet_open::right_lengths(capacity(), slots.len(), counts.len(), tallies.len()) {
-        return Opened::Refused(Cause::Lengths);
+        return Err(Cause::Lengths);
     }
     let mut counts32 = [0u32; 256];
     let mut tallies32 = [0u32; 256];

@@ -14,10 +14,10 @@ ghost use Rattle.sheet_change.specs.Made.{answer_to, MadeIn};
 ghost use Rattle.sheet_change.specs.PlainReady.{PlainReady, TalliesAfter, LeftSheet};
 
 use call_change::DrawnChange;
+use call_open::Opened;
 use sheet_change::Made;
 use tree_rules::Change;
 use tree_sizes::Size;
-use tree_walk::Updated;
 
 // No boat on the sheet of n entries with these tallies is retired, and none comes in.
 fn all_score(tallies: &[u16], n: usize, entry: u64) -> bool
@@ -57,56 +57,48 @@ fn write_tallies(
     store_widths::narrow(&tallies32, tallies);
 }
 
-// Makes the change of a sheet of n entries with the size parameter m, whose counts `counts32` has as they stand, and the work array by range
+// Makes the change of the sheet that the store was found to hold, whose counts `counts32` has as they stand, and the work array by range
 // number. Everything is drawn in the work array; the slices are written only after that, the tallies last. Where no boat is retired these are
-// the counts.
+// the counts. Where the tape ends nothing is written, and nothing made.
 pub fn make(
     slots: &mut [u64],
     counts: &mut [u16],
     tallies: &mut [u16],
     counts32: &mut [u32],
     work: &mut [u32],
-    n: usize,
-    m: usize,
+    sheet: Opened,
     change: Change,
     entry: u64,
     tape: &[u32],
-) -> Made
-    requires sheet { PlainReady clubs change entry n m (plain_store_of slots.old counts.old tallies.old) work.old }
+) -> Option<Made>
+    requires sheet { PlainReady clubs change entry sheet.n sheet.m (plain_store_of slots.old counts.old tallies.old) work.old }
     requires same { counts32.old ≡ counts.old }
     ensures { (plain_outcome_of (answer_to result) slots.new counts.new tallies.new []
         ≡ outcome (plain clubs) (changing change entry) tape.now (plain_store_of slots.old counts.old tallies.old) [])
-        × MadeIn m slots.old result slots.new counts.new }
+        × MadeIn sheet.m slots.old result slots.new counts.new }
 {
-    let after = tree_counts::count_after(change, n);
+    let Opened { n, m } = sheet;
+    let after = change.count_after(n);
     let scoring = all_score(tallies, n, entry);
-    match tree_update::update(change, n, m, work, tape) {
-        Updated::Done {
-            m: size,
-            part,
-            next,
-        } => {
-            let drawn = DrawnChange {
-                old: m,
-                new: size,
-                part: part,
-                change: change,
-                entry: entry,
-            };
-            sheet_change::write_small(slots, counts32, work, drawn);
-            store_widths::narrow(counts32, counts);
-            if scoring {
-                store_widths::narrow_counts(counts32, tallies);
-            } else {
-                write_tallies(slots, counts32, work, tallies, drawn);
-            }
-            Made::Done {
-                n: after,
-                words: next,
-                m: size,
-                part: part,
-            }
-        }
-        Updated::Ended => Made::Ended,
+    let updated = tree_update::update(change, n, m, work, tape)?;
+    let drawn = DrawnChange {
+        old: m,
+        new: updated.m,
+        part: updated.part,
+        change: change,
+        entry: entry,
+    };
+    sheet_change::write_small(slots, counts32, work, drawn);
+    store_widths::narrow(counts32, counts);
+    if scoring {
+        store_widths::narrow_counts(counts32, tallies);
+    } else {
+        write_tallies(slots, counts32, work, tallies, drawn);
     }
+    Some(Made {
+        n: after,
+        words: updated.next,
+        m: updated.m,
+        part: updated.part,
+    })
 }

@@ -31,12 +31,11 @@ pub fn right_lengths(cap: Capacity, slots: usize, counts: usize, tallies: usize)
     tallies == cap.counts
 }
 
-// The tallies are those of the sheet of n entries in slots and counts, whose counts the work array has by range number. Where the tally of the
-// whole sheet is n no boat may be retired, and the tallies are the counts. `numbers` gets the tallies by range number.
+// The tallies are those of the sheet in slots and counts, whose counts the work array has by range number. Where the tally of the
+// whole sheet is the number of its entries no boat may be retired, and the tallies are the counts. `numbers` gets the tallies by range number.
 fn is_tallied(
     cap: Capacity,
-    n: usize,
-    size: Size,
+    sheet: Opened,
     slots: &[u64],
     counts: &[u32],
     work: &[u32],
@@ -44,14 +43,15 @@ fn is_tallied(
     numbers: &mut [u32],
 ) -> bool
     requires ready { CapacityReady cap }
-    requires sheet { OpenedSheet cap (store_of slots.now counts.now) n size.m work.now }
+    requires sheet { OpenedSheet cap (store_of slots.now counts.now) sheet.n sheet.m work.now }
     requires tallies { length tallies.now ≡ cap.counts }
     requires numbers { length numbers.old ≡ cap.counts }
     ensures { ((c : Contents) → decode cap (store_of slots.now counts.now) ≡ some c
         → result ≡ slice_test (tally_slice cap) tallies.now c)
-        × (result ≡ true → numbers.new ≡ number_order (height size.m) tallies.now) }
+        × (result ≡ true → numbers.new ≡ number_order (height sheet.m) tallies.now) }
 {
-    if store_tally_copies::root_tally(tallies) == n {
+    let size = Size { m: sheet.m };
+    if store_tally_copies::root_tally(tallies) == sheet.n {
         if !store_scoring::none_retired(slots, size.slots()) {
             return false;
         }
@@ -70,22 +70,18 @@ pub fn examine(
     tallies: &[u32],
     work: &mut [u32],
     numbers: &mut [u32],
-) -> Opened
+) -> Result<Opened, Cause>
     requires ready { CapacityReady cap }
     requires work { length work.old ≡ cap.counts }
     requires numbers { length numbers.old ≡ cap.counts }
     ensures { PlainOpening cap (plain_store_of slots.now counts.now tallies.now) result work.new numbers.new }
 {
     if tallies.len() != cap.counts {
-        return Opened::Refused(Cause::Lengths);
+        return Err(Cause::Lengths);
     }
-    match call_open::examine(cap, slots, counts, work) {
-        Opened::Sheet { n, m } => {
-            if !is_tallied(cap, n, Size { m: m }, slots, counts, work, tallies, numbers) {
-                return Opened::Refused(Cause::NotASheet);
-            }
-            Opened::Sheet { n: n, m: m }
-        }
-        Opened::Refused(cause) => Opened::Refused(cause),
+    let sheet = call_open::examine(cap, slots, counts, work)?;
+    if !is_tallied(cap, sheet, slots, counts, work, tallies, numbers) {
+        return Err(Cause::NotASheet);
     }
+    Ok(sheet)
 }

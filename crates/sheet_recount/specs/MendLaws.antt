@@ -1,5 +1,5 @@
 -- What the code leaves is what mending comes to.
-use Rattle.std.specs.Prelude.{◌≡◌, true, false, List, [], ℕ, length, get_or}
+use Rattle.std.specs.Prelude.{Ok, Err, ◌≡◌, true, false, List, [], ℕ, length, get_or}
 use Rattle.std.proofs.Math.Path.{sym}
 use Rattle.std.proofs.Common.{ap, ◌∙◌}
 use Rattle.tree_rules.specs.Tree.{Shape, IsShape}
@@ -8,7 +8,7 @@ use Rattle.store_layout.specs.Room.{CapacityReady}
 use Rattle.store_layout.specs.Layout.{lay_out}
 use Rattle.store_layout.proofs.SheetLaws.{size_lay_out}
 use Rattle.call_outcomes.specs.declared.Cause.TheVariants.{Lengths, NotMendable}
-use Rattle.call_outcomes.specs.declared.Answer.TheVariants.{Mended, Refused}
+use Rattle.call_outcomes.specs.declared.Answer.TheVariants.{Mended}
 use Rattle.call_outcomes.specs.Outcome.{refused}
 use Rattle.call_outcomes.specs.Untallied.{IsList, store_of}
 use Rattle.call_outcomes.proofs.UntalliedLaws.{contents_of_lem}
@@ -52,13 +52,13 @@ module _ {cap : Capacity} (ready : CapacityReady cap) (slots counts tallies : Li
   store = plain_store_of slots counts tallies
 
   pub mend_lengths : (plain_view cap).right_lengths store ≡ false
-      → plain_outcome_of (Refused Lengths) slots counts tallies [] ≡ mended (plain_view cap) (plain_store cap) store
+      → plain_outcome_of (Err Lengths) slots counts tallies [] ≡ mended (plain_view cap) (plain_store cap) store
   unfolding refused
   mend_lengths h = sym (mended_lengths ready.roomy (plain_view cap) (plain_store cap) (plain_lawful cap ready.roomy).view store h)
 
   module _ (right : (plain_view cap).right_lengths store ≡ true) where
     pub mend_none : NoSheet cap slots (get_or counts 0 0)
-        → plain_outcome_of (Refused NotMendable) slots counts tallies [] ≡ mended (plain_view cap) (plain_store cap) store
+        → plain_outcome_of (Err NotMendable) slots counts tallies [] ≡ mended (plain_view cap) (plain_store cap) store
     unfolding refused
     mend_none none =
         sym
@@ -78,7 +78,7 @@ module _ {cap : Capacity} (ready : CapacityReady cap) (slots counts tallies : Li
           }
 
       pub mend_made : {counts' tallies' : List ℕ} → counts' ≡ fresh → TalliesOf cap slots fresh tallies'
-          → plain_outcome_of (Mended n) slots counts' tallies' [] ≡ mended (plain_view cap) (plain_store cap) store
+          → plain_outcome_of (Ok (Mended n)) slots counts' tallies' [] ≡ mended (plain_view cap) (plain_store cap) store
       mend_made counts_are put =
           let made = mended_made ready.roomy (plain_view cap) (plain_store cap) (plain_lawful cap ready.roomy).view store right found_mendable in
-          ap (λ (t : PlainStore). record { answer = Mended n; store = t; output = [] }) (put_laid ready w counts_are put) ∙ sym (rw w.count at made)
+          ap (λ (t : PlainStore). record { answer = Ok (Mended n); store = t; output = [] }) (put_laid ready w counts_are put) ∙ sym (rw w.count at made)

@@ -1,8 +1,9 @@
 -- The look for the sheet with given slots and size parameter: what the slots give, tested, is that sheet, or there is none.
-use Rattle.std.proofs.Math.Path.{◌≡◌, sym}
+use Rattle.std.proofs.Math.Path.{◌≡◌, refl, sym}
 use Rattle.std.proofs.Common.{◌∙◌}
+use Rattle.std.specs.Result.{result_or}
 use mathlib.Core.List.{List}
-use Rattle.std.specs.Prelude.{ℕ, ◌-◌, ◌*◌, ◌^◌, ◌≤◌, ◌<◌, get_or}
+use Rattle.std.specs.Prelude.{Result, Ok, Err, ℕ, ◌-◌, ◌*◌, ◌^◌, ◌≤◌, ◌<◌, get_or}
 use native.Mathlib.Omega.{arith}
 use Rattle.std.proofs.Math.ListN.{length}
 use Rattle.tree_sizes.specs.Sizes.{height, slots}
@@ -26,15 +27,14 @@ use Rattle.call_outcomes.specs.DecisionLaws.{store_decided}
 use Rattle.call_outcomes.specs.Untallied.{IsList, untallied_view, store_of}
 use Rattle.call_outcomes.proofs.UntalliedLaws.{untallied_lawful}
 use Rattle.call_open.specs.declared.Opened.{Opened}
-use Rattle.call_open.specs.declared.Opened.TheVariants as opened
 use Rattle.call_open.specs.Opening.{opened_as, Opening}
 use Rattle.call_open.specs.AdmittedLaws.{opened_sheet}
 use Rattle.sheet_recount.specs.Recount.{Recounted}
 
 -- No sheet has a size parameter above the greatest.
-pub recounted_large : (cap : Capacity) (sl : List ℕ) (m : ℕ) → 2 * cap.entries - 1 < m → (work fresh : List ℕ) → Recounted cap sl m (opened.Refused NotMendable) work fresh
+pub recounted_large : (cap : Capacity) (sl : List ℕ) (m : ℕ) → 2 * cap.entries - 1 < m → (work fresh : List ℕ) → Recounted cap sl m (Err NotMendable) work fresh
 recounted_large cap sl m large work fresh = record {
-  found = λ n size e. let z : ◌≡◌ {A = ℕ} 0 1 = cc in absurd (omega arith);
+  found = λ sheet e. let z : ◌≡◌ {A = ℕ} 0 1 = cc in absurd (omega arith);
   none = λ cause e. (cc, λ list s w laid size. omega (arith, w.room, w.shape.allowed.most, size));
 }
 
@@ -62,23 +62,20 @@ module _ {cap : Capacity} (ready : CapacityReady cap) (sl : List ℕ) (m : ℕ) 
           (rw (← laid, ← size) (counts_laid cap ready.roomy list s w)) (room ∙ sym (length_shape_counts cap.counts (length list) s)) in
           rw (is, known, ← laid, ← size)
 
-      module _ (found : Opened) (copied : List ℕ) (w : Opening (untallied_view cap) numbered (store_of sl fresh) found copied) where
-        pub recounted_sheet : (n size : ℕ) → found ≡ opened.Sheet n size → Recounted cap sl m (opened.Sheet n size) copied fresh
-        recounted_sheet n size e =
-            let o = opened_sheet cap (store_of sl fresh) w n size e in
-            let same : size ≡ m = sym o.size ∙ sym (size_known cap (store_of sl fresh) o.contents o.decoded) ∙ fresh_size in
+      module _ (found : Result Opened Cause) (copied : List ℕ) (w : Opening (untallied_view cap) numbered (store_of sl fresh) found copied) where
+        recounted_sheet : (sheet : Opened) → found ≡ Ok sheet → Recounted cap sl m (Ok sheet) copied fresh
+        recounted_sheet sheet e =
+            let o = opened_sheet cap (store_of sl fresh) w sheet e in
+            let same : sheet.m ≡ m = sym o.size ∙ sym (size_known cap (store_of sl fresh) o.contents o.decoded) ∙ fresh_size in
             record {
-              found = λ n' size' e'.
-                  let entries : n ≡ n' = cc in
-                  let sizes : size ≡ size' = cc in
-                  (rw (← entries, ← sizes) o, sym sizes ∙ same);
+              found = λ other e'. let both : sheet ≡ other = cc in rw (← both) (o, same);
               none = λ cause e'. let z : ◌≡◌ {A = ℕ} 0 1 = cc in absurd (omega arith);
             }
 
-        pub recounted_none : (cause : Cause) → found ≡ opened.Refused cause → Recounted cap sl m (opened.Refused NotMendable) copied fresh
+        recounted_none : (cause : Cause) → found ≡ Err cause → Recounted cap sl m (Err NotMendable) copied fresh
         unfolding opened_as
         recounted_none cause e = record {
-          found = λ n size e'. let z : ◌≡◌ {A = ℕ} 0 1 = cc in absurd (omega arith);
+          found = λ sheet e'. let z : ◌≡◌ {A = ℕ} 0 1 = cc in absurd (omega arith);
           none = λ cause' e'. (cc, λ list s contents laid size. no_sheet list s contents (sheet_counted list s contents laid size));
         }
           where
@@ -90,3 +87,10 @@ module _ {cap : Capacity} (ready : CapacityReady cap) (sl : List ℕ) (m : ℕ) 
                 (lawful.lengths list s is_list contents.shape) (lawful.complete list s is_list contents.shape) in
                 let held = rw (laid, decided) at w.found in
                 let z : ◌≡◌ {A = ℕ} 0 1 = cc in omega arith
+
+        pub recounted : {answer : Result Opened Cause} → answer ≡ result_or found (Err NotMendable) → Recounted cap sl m answer copied fresh
+        recounted is = rw is (go found refl)
+          where
+            go : (o : Result Opened Cause) → found ≡ o → Recounted cap sl m (result_or o (Err NotMendable)) copied fresh
+            go (Ok sheet) e = recounted_sheet sheet e
+            go (Err cause) e = recounted_none cause e

@@ -20,7 +20,7 @@ pub fn recount(
     m: usize,
     work: &mut [u32],
     fresh: &mut [u32],
-) -> Opened
+) -> Result<Opened, Cause>
     requires ready { CapacityReady cap }
     requires slots { length slots.now ≡ cap.slots }
     requires work { work.old ≡ replicate cap.counts 0 }
@@ -28,22 +28,18 @@ pub fn recount(
     ensures { Recounted cap slots.now m result work.new fresh.new }
 {
     if store_test::greatest_size(cap.entries) < m {
-        return Opened::Refused(Cause::NotMendable);
+        return Err(Cause::NotMendable);
     }
     let size = Size { m: m };
     store_sums::count_entries(size, slots, work);
     store_counts::write_counts(size, work, fresh);
-    match call_open::examine(cap, slots, fresh, work) {
-        Opened::Sheet { n, m: found } => Opened::Sheet { n: n, m: found },
-        Opened::Refused(_) => Opened::Refused(Cause::NotMendable),
-    }
+    call_open::examine(cap, slots, fresh, work).or(Err(Cause::NotMendable))
 }
 
-// Makes the tallies those of the sheet of n entries with the fresh counts. They are worked out in `numbers`, which are 0.
+// Makes the tallies those of the sheet with the fresh counts. They are worked out in `numbers`, which are 0.
 pub fn tally(
     cap: Capacity,
-    n: usize,
-    size: Size,
+    sheet: Opened,
     slots: &[u64],
     fresh: &[u32],
     work: &[u32],
@@ -51,11 +47,12 @@ pub fn tally(
     tallies: &mut [u32],
 )
     requires ready { CapacityReady cap }
-    requires sheet { OpenedSheet cap (store_of slots.now fresh.now) n size.m work.now }
+    requires sheet { OpenedSheet cap (store_of slots.now fresh.now) sheet.n sheet.m work.now }
     requires numbers { numbers.old ≡ replicate cap.counts 0 }
     requires tallies { length tallies.old ≡ cap.counts }
     ensures { TalliesOf cap slots.now fresh.now tallies.new }
 {
+    let size = Size { m: sheet.m };
     if store_scoring::none_retired(slots, size.slots()) {
         store_tally_copies::copy_counts(tallies, fresh);
     } else {

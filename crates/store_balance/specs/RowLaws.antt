@@ -1,14 +1,14 @@
 -- The rows of the third slice: their lengths, what stands at each number, and the loops that write them.
 use Rattle.std.specs.Prelude.{◌≡◌, List, ◌++◌, length, take, drop, set, replicate}
 use Rattle.std.proofs.Math.Path.{refl, ap}
-use Rattle.std.proofs.Common.{sym, ◌∙◌, append-nil, not-suc-le-zero, le_of_suc-le-suc, eq-or-lt_of_le, pow_mono, take_all, take_at}
+use Rattle.std.proofs.Common.{sym, ◌∙◌, not-suc-le-zero, le_of_suc-le-suc, eq-or-lt_of_le, pow_mono, take_all, take_at}
 use Rattle.std.proofs.Math.Logic.{⊎_elim}
 use Prim.Native.Nat.{ℕ, zero, suc, ◌+◌, ◌-◌, ◌*◌, ◌^◌, ◌≤◌, ◌<◌}
 use Rattle.std.proofs.Math.Nat.{pow-succ', mul-le-mul_left}
 use native.Mathlib.Omega.{arith}
 use Rattle.std.proofs.Math.ListN.{get_or, length-append, get_or-append}
 use Rattle.std.proofs.Math.Pow.{pow_pos, pow-add}
-use Rattle.std.proofs.Math.Seq.{drop-length, get_or-append-add, drop-append-add}
+use Rattle.std.proofs.Math.Seq.{get_or-append-add, drop-append-add}
 use Rattle.base.specs.ListLaws.{length_tabulate, get_d_tabulate, drop_replicate}
 use Rattle.tree_sizes.specs.Sizes.{height, leaf_slots, slots}
 use Rattle.tree_sizes.proofs.SizeLaws.{slots_le}
@@ -96,15 +96,14 @@ module _ (h s : ℕ) (slots : List ℕ) where
 -- ---- the loop that writes the rows
 
 -- Words that are all set to 0 are those before the first row.
-pub rows_none : (h s : ℕ) (slots old new : List ℕ) → 0 < length old → new ≡ take 0 old ++ replicate (length old - 0) 0 ++ drop (length old) old
-    → length new ≡ length old → Rows h s slots (length old) h 1 new
+pub rows_none : (h s room : ℕ) (list new : List ℕ) → 0 < room → new ≡ replicate room 0 → length new ≡ room → Rows h s list room h 1 new
 unfolding pad_to rows_to
-rows_none h s slots old new pos zeroed kept =
+rows_none h s room list new pos zeroed kept =
     let none : h - h ≡ 0 = omega arith in
-    let all : length old - 0 ≡ suc (length old - 1) = omega arith in record {
+    let all : room ≡ suc (room - 1) = omega arith in record {
       within = omega arith;
       number = rw none;
-      is = zeroed ∙ rw (none, all, drop-length old) (append-nil (replicate (suc (length old - 1)) 0));
+      is = zeroed ∙ ap (λ (n : ℕ). replicate n 0) all ∙ rw none;
       kept = kept;
     }
 

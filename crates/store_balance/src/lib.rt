@@ -6,20 +6,17 @@ ghost use Rattle.base.specs.Lists.{equal_lists};
 ghost use Rattle.tree_sizes.specs.Sizes.{height};
 ghost use Rattle.store_balance.specs.BalanceIn.{first_from, right_firsts, balance_in};
 
-use store_slices::zero_slots;
 use tree_sizes::{Size, power};
 
 // The first entry that stands from the slot `from` on, 0 if there is none.
 pub fn first_entry(slots: &[u64], from: usize) -> u64
     ensures { result ≡ first_from slots.now from }
 {
-    let mut at = from;
-    while at < slots.len() {
-        let x = slots[at];
-        if x != 0 {
-            return x;
+    let start = from.min(slots.len());
+    for slot in &slots[start..] {
+        if *slot != 0 {
+            return *slot;
         }
-        at += 1;
     }
     0
 }
@@ -33,12 +30,8 @@ fn write_row(slots: &[u64], balance: &mut [u64], ranges: usize, half: usize)
         ++ right_firsts slots.now half ranges
         ++ drop (2 * ranges) balance.old }
 {
-    let mut i: usize = 0;
-    let mut at = half;
-    while i < ranges {
-        balance[ranges + i] = first_entry(slots, at);
-        at += 2 * half;
-        i += 1;
+    for i in 0..ranges {
+        balance[ranges + i] = first_entry(slots, (2 * i + 1) * half);
     }
 }
 
@@ -48,13 +41,10 @@ pub fn write_balance(size: Size, slots: &[u64], balance: &mut [u64])
     requires room { 2 ^ height size.m ≤ length balance.old }
     ensures { balance.new ≡ balance_in size.m (length balance.old) slots.now }
 {
-    let words = balance.len();
-    zero_slots(balance, 0, words);
+    balance.fill(0);
     let leaf = size.leaf_slots();
-    let mut levels = size.height();
-    let mut ranges: usize = 1;
-    while 0 < levels {
-        levels -= 1;
+    let mut ranges = 1;
+    for levels in (0..size.height()).rev() {
         write_row(slots, balance, ranges, leaf * power(levels));
         ranges = 2 * ranges;
     }
@@ -65,12 +55,8 @@ fn same_words(a: &[u64], b: &[u64]) -> bool
     requires { length a.now ≡ length b.now }
     ensures { result ≡ equal_lists a.now b.now }
 {
-    let mut joined: u64 = 0;
-    let mut k: usize = 0;
-    while k < a.len() {
-        joined = joined | (a[k] ^ b[k]);
-        k += 1;
-    }
+    let pairs = a.iter().zip(b.iter());
+    let joined = pairs.fold(0, |joined, (x, y)| joined | (*x ^ *y));
     joined == 0
 }
 

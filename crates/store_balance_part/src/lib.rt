@@ -36,11 +36,9 @@ fn update_balance(size: Size, slots: &[u64], first: usize, last: usize, balance:
     let s = size.leaf_slots();
     let h = size.height();
     let leaves = power(h);
-    let mut leaf = base::larger(first, leaves + 1);
-    while leaf <= last {
+    for leaf in first.max(leaves + 1)..last + 1 {
         let k = split_range(leaf);
         balance[k] = first_entry(slots, s * (leaf - leaves));
-        leaf += 1;
     }
 }
 

@@ -9,15 +9,12 @@ ghost use Rattle.store_board.specs.Board.{falls_below, falls, some_from, entries
 pub fn ranks_fall(ranks: &[u64]) -> bool
     ensures { result ≡ falls ranks.now }
 {
-    let mut low: u64 = 0;
-    let mut k = 0;
-    while k < ranks.len() {
-        let rank = ranks[k];
-        if rank < low {
+    let mut low = 0;
+    for rank in ranks {
+        if *rank < low {
             return true;
         }
-        low = rank;
-        k += 1;
+        low = *rank;
     }
     false
 }
@@ -27,12 +24,10 @@ pub fn some_rank_from(ranks: &[u64], n: usize) -> bool
     requires { falls ranks.now ≡ false }
     ensures { result ≡ some_from n ranks.now }
 {
-    let count = ranks.len();
-    if count == 0 {
-        return false;
+    match ranks.last() {
+        Some(last) => n <= *last as usize,
+        None => false,
     }
-    let last = ranks[count - 1] as usize;
-    n <= last
 }
 
 // Copies the entries at the ranks to the front of the output, in one walk along the slots from `start` on, before which `passed` entries stand.
@@ -54,13 +49,11 @@ pub fn copy_entries(
 {
     let mut at = start;
     let mut seen = passed;
-    let mut k = 0;
-    while k < ranks.len() {
-        let rank = ranks[k] as usize;
+    for (k, next) in ranks.iter().enumerate() {
+        let rank = *next as usize;
         at = store_slices::entry_slot(slots, at, rank - seen);
         output[k] = slots[at];
         seen = rank;
-        k += 1;
     }
     at
 }

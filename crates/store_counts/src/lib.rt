@@ -1,4 +1,4 @@
-// The counts of a store, read and written in their order: with `store_tree_read`, `store_tree_write` and `store_rows` the only code that knows it.
+// The counts of a store, read and written in their order: with `store_tree` and `store_rows` the only code that knows it.
 #![tactic(auto)]
 
 ghost use Rattle.std.specs.Prelude.{◌≡◌, ◌≢◌, ◌*◌, ◌^◌, ◌<◌, ◌≤◌, length, replicate};
@@ -20,11 +20,9 @@ fn read_table(counts: &[u32], work: &mut [u32])
     ensures { work.new ≡ put_from 1 (places_from 7 1 255) counts.now work.old }
 {
     let places = table::places_of_eight_levels();
-    let mut i: usize = 0;
-    while i < 255 {
-        let place = places[i] as usize;
+    for (i, place) in places.iter().enumerate() {
+        let place = *place as usize;
         work[i + 1] = counts[place];
-        i += 1;
     }
 }
 
@@ -35,11 +33,9 @@ fn write_table(counts: &mut [u32], work: &[u32])
     ensures { counts.new ≡ put_to 1 (places_from 7 1 255) work.now counts.old }
 {
     let places = table::places_of_eight_levels();
-    let mut i: usize = 0;
-    while i < 255 {
-        let place = places[i] as usize;
+    for (i, place) in places.iter().enumerate() {
+        let place = *place as usize;
         counts[place] = work[i + 1];
-        i += 1;
     }
 }
 
@@ -50,11 +46,7 @@ fn copy_rest(from: &[u32], start: usize, to: &mut [u32])
     ensures { RestCopied start (length from.now) from.now to.new }
 {
     to[0] = from[0];
-    let mut i = start;
-    while i < from.len() {
-        to[i] = from[i];
-        i += 1;
-    }
+    to[start..].copy_from_slice(&from[start..]);
 }
 
 // Copies the counts of a sheet of this size into a work array, by range number.
@@ -68,7 +60,7 @@ pub fn read_counts(size: Size, counts: &[u32], work: &mut [u32])
     if levels == 8 {
         read_table(counts, work);
     } else {
-        store_tree_read::read_tree(counts, 1, work, levels, 1);
+        store_tree::read_tree(counts, 1, work, levels, 1);
     }
 }
 
@@ -83,7 +75,7 @@ pub fn write_counts(size: Size, work: &[u32], counts: &mut [u32])
     if levels == 8 {
         write_table(counts, work);
     } else {
-        store_tree_write::write_tree(counts, 1, work, levels, 1);
+        store_tree::write_tree(counts, 1, work, levels, 1);
     }
 }
 
@@ -115,9 +107,5 @@ pub fn put_numbers(
 pub fn zero_counts(counts: &mut [u32])
     ensures { counts.new ≡ replicate (length counts.old) 0 }
 {
-    let mut i = 0;
-    while i < counts.len() {
-        counts[i] = 0;
-        i += 1;
-    }
+    counts.fill(0);
 }

@@ -40,13 +40,10 @@ pub fn entries_rise(slots: &[u64], end: usize) -> bool
     ensures { result ≡ keys.rises (nonzero (take end slots.now)) }
 {
     let mut rising = true;
-    let mut last: u64 = 0;
-    let mut i: usize = 0;
-    while i < end {
-        let held = slots[i];
-        rising = rising & is_above(last, held);
-        last = key_after(last, held);
-        i += 1;
+    let mut last = 0;
+    for held in &slots[..end] {
+        rising &= is_above(last, *held);
+        last = key_after(last, *held);
     }
     rising
 }

@@ -142,10 +142,8 @@ fn spread_leaf(slots: &mut [u64], leaf: Leaf, list: &[u64])
         k: 0,
         position: first_position(leaf.slots, leaf.entries, step),
     };
-    let mut i: usize = 0;
-    while i < leaf.slots {
+    for i in 0..leaf.slots {
         next = write_slot(slots, leaf, list, step, i, next);
-        i += 1;
     }
 }
 
@@ -174,11 +172,10 @@ pub fn lay_leaves(
         ++ lay_leaves s (take leaves (drop first counts.now)) list.now
         ++ drop (from + s * leaves) slots.old }
 {
-    let mut j: usize = 0;
     let mut to = from;
     let mut at: usize = 0;
-    while j < leaves {
-        let n = count_at(counts, first + j);
+    for count in &counts[first..first + leaves] {
+        let n = *count as usize;
         let leaf = Leaf {
             from: to,
             slots: s,
@@ -188,7 +185,6 @@ pub fn lay_leaves(
         spread_leaf(slots, leaf, list);
         to += s;
         at += n;
-        j += 1;
     }
 }
 
@@ -199,12 +195,11 @@ pub fn gather(slots: &[u64], from: usize, len: usize, list: &mut [u64]) -> usize
     ensures { Gathered (nonzero (take len (drop from slots.now))) list.old result list.new }
 {
     let mut n: usize = 0;
-    let mut i: usize = 0;
-    while i < len {
-        let held = slots[from + i];
+    for slot in &slots[from..from + len] {
+        let held = *slot;
         list[n] = held;
-        i += 1;
-        if held != 0 {
+        let is_entry = held != 0;
+        if is_entry {
             n += 1;
         }
     }

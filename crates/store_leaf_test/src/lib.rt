@@ -7,7 +7,6 @@ ghost use Rattle.store_leaf_test.specs.Ready.{LeafTestReady, LeavesTestReady};
 ghost use Rattle.store_leaf_test.specs.Check.{leaf_test, leaves_test};
 ghost use Rattle.store_masks.specs.Mask.{masks};
 
-use store_layout::count_at;
 use store_masks::{larger, table};
 
 // The s slots from `from` on hold n entries at the places of the leaf rule, and 0 in every other slot: there are n entries, and no place is
@@ -21,14 +20,12 @@ fn leaf_is_spread(slots: &[u64], from: usize, s: usize, n: usize) -> bool
     if store_sums::entries_in(slots, from, s) != n {
         return false;
     }
-    let mut k: usize = 0;
-    while k < n {
+    for _k in 0..n {
         let slot = position.whole;
         if slots[from + slot] == 0 {
             return false;
         }
         position = position.plus(step, 2 * n);
-        k += 1;
     }
     true
 }
@@ -38,15 +35,13 @@ fn leaves_one_by_one(slots: &[u64], s: usize, counts: &[u32], first: usize, leav
     requires { LeavesTestReady slots.now s counts.now first leaves }
     ensures { result ≡ leaves_test s (take leaves (drop first counts.now)) slots.now }
 {
-    let mut j: usize = 0;
     let mut from: usize = 0;
-    while j < leaves {
-        let n = count_at(counts, first + j);
+    for count in &counts[first..first + leaves] {
+        let n = *count as usize;
         if !leaf_is_spread(slots, from, s, n) {
             return false;
         }
         from += s;
-        j += 1;
     }
     true
 }
@@ -66,16 +61,14 @@ fn leaves_have_masks(
     ensures { result ≡ leaves_test (3 * g) (take leaves (drop first counts.now)) slots.now }
 {
     let mut all = true;
-    let mut j: usize = 0;
     let mut from: usize = 0;
-    while j < leaves {
-        let n = count_at(counts, first + j);
+    for count in &counts[first..first + leaves] {
+        let n = *count as usize;
         let taken = store_masks::taken_slots(slots, from, g);
         if taken != table[n] {
             all = false;
         }
         from += 3 * g;
-        j += 1;
     }
     all
 }

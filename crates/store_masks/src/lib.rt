@@ -42,12 +42,10 @@ pub fn taken_slots(slots: &[u64], from: usize, g: usize) -> u64
     let mut left: u64 = 1;
     let mut middle: u64 = 1;
     let mut right: u64 = 1;
-    let mut i: usize = 0;
-    while i < g {
+    for i in 0..g {
         left = next_digit(left, slots[from + i]);
         middle = next_digit(middle, slots[second + i]);
         right = next_digit(right, slots[third + i]);
-        i += 1;
     }
     joined(left - 1, middle - 1, right - 1, g)
 }

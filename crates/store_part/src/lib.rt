@@ -103,11 +103,11 @@ pub fn lay_part(
     let old_from = part_from(old, part);
     let old_length = part_length(old, part);
     let n = store_layout::gather(slots, old_from, old_length, list);
-    let here = tree_counts::at_rank(change, rank);
+    let here = change.at_rank(rank);
     store_slices::change_list(list, n, here, e);
     let end = part_from(new, part) + part_length(new, part);
     let old_end = old_from + old_length;
-    let last = base::larger(end, old_end);
+    let last = end.max(old_end);
     store_slices::zero_slots(slots, end, last);
     lay_entries(slots, new, part, counts, list);
 }

@@ -24,11 +24,9 @@ pub fn start_of(size: Size, counts: &[u32], rank: usize) -> Start
     ensures { result ≡ start_of size.m counts.now rank }
 {
     let h = size.height();
-    let mut levels = h;
-    let mut range: usize = 1;
+    let mut range = 1;
     let mut rest = rank;
-    while 0 < levels {
-        levels -= 1;
+    for _depth in 0..h {
         range = 2 * range;
         let n = count_at(counts, range);
         if n <= rest {

@@ -47,11 +47,9 @@ fn write_row(h: usize, depth: usize, numbers: &[u32], from: usize, to: usize, co
     requires places { 2 * 2 ^ h ≤ length counts.old }
     ensures { RowWritten h from (to + 1) numbers.now counts.old counts.new }
 {
-    let mut k = from;
-    while k <= to {
+    for k in from..to + 1 {
         let place = place_of(h, depth, k);
         counts[place] = numbers[k];
-        k += 1;
     }
 }
 
@@ -66,10 +64,8 @@ pub fn write_rows(h: usize, numbers: &[u32], first: usize, last: usize, counts: 
 {
     let mut from = first;
     let mut to = last;
-    let mut rows = h + 1;
-    while 0 < rows {
-        rows -= 1;
-        write_row(h, rows, numbers, from, to, counts);
+    for depth in (0..h + 1).rev() {
+        write_row(h, depth, numbers, from, to, counts);
         from = from / 2;
         to = to / 2;
     }

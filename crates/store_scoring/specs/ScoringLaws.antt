@@ -1,7 +1,10 @@
 -- Laws of scoring boats: the retired bit of joined numbers, the number of scoring entries, and the test that none is retired.
-use Rattle.std.specs.Prelude.{◌≡◌, refl, Bool, true, false, ◌&&◌, ◌||◌, not, ◌≢◌, ℕ, suc, ◌+◌, ◌-◌, ◌/◌, ◌%◌, ◌^◌, ◌≤◌, ◌<◌, leb, length, get_or, take, drop}
-use Rattle.std.proofs.Common.{sym, ap, ◌∙◌, add-one, arith, le-leb, length-take, take-append-drop, take-suc, take-add}
+use Rattle.std.specs.Prelude.{◌≡◌, refl, Bool, true, false, ◌&&◌, ◌||◌, not, ◌≢◌, ℕ, zero, suc, ◌+◌, ◌*◌, ◌/◌, ◌%◌, ◌^◌, ◌≤◌, ◌<◌, leb, length, get_or, take, drop}
+use Rattle.std.proofs.Common.{sym, ap, ◌∙◌, add-one, zero-mul, arith, le-leb, length-take, take-append-drop, take-suc}
 use mathlib.Core.List.{List, [], ◌∷◌, ◌++◌}
+use Rattle.std.specs.List.{fold, AllWithin, HoldsAt}
+use Rattle.std.specs.Simd.{first_chunks}
+use Rattle.std.proofs.lemmas.List.{drop-drop}
 use Rattle.std.proofs.Math.Logic.{⊎_elim}
 use Rattle.std.proofs.lemmas.Bool.{lt-leb, not-true}
 use Rattle.std.specs.Int.Bits.{bit_or, or_add_and}
@@ -149,21 +152,6 @@ module _ (slots : List ℕ) (i : ℕ) (inside : i < length slots) where
   pub tally_next : tally (nonzero (take (i + 1) slots)) ≡ tally (nonzero (take i slots)) + tally (nonzero (get_or slots i 0 ∷ []))
   tally_next = rw (add-one i, take-suc slots i 0 inside) (slots_append (take i slots) (get_or slots i 0 ∷ []))
 
-  -- Slots joined bit by bit, and one more.
-  pub none_joined : (joined : ℕ) → none_retired (nonzero (take i slots)) ≡ not (retired_bit joined)
-      → none_retired (nonzero (take (i + 1) slots)) ≡ not (retired_bit (bit_or joined (get_or slots i 0)))
-  none_joined joined h =
-      rw (
-        add-one i,
-        take-suc slots i 0 inside,
-        nonzero_append (take i slots) (get_or slots i 0 ∷ []),
-        none_append (nonzero (take i slots)) (nonzero (get_or slots i 0 ∷ [])),
-        h,
-        none_slot (get_or slots i 0),
-        retired_or joined (get_or slots i 0),
-      )
-      (sym (not_or (retired_bit joined) (retired_bit (get_or slots i 0))))
-
 -- The first n slots have no more than n scoring entries.
 pub tally_slots : (n : ℕ) (slots : List ℕ) → tally (nonzero (take n slots)) ≤ n
 tally_slots n slots = omega (arith, tally_most (nonzero (take n slots)), nonzero_length (take n slots), length-take n slots)
@@ -175,15 +163,49 @@ unfolding nonzero
 tally_among entries seen x more is full =
     rw (add-one seen, take-suc entries seen 0 more, nonzero_entry x [] (omega arith), is) (tally_append (take seen entries) (get_or entries seen 0 ∷ []))
 
--- The first n slots behind the first b ones, of which none is retired.
-pub none_block : (slots : List ℕ) (b n : ℕ) → none_retired (nonzero (take b slots)) ≡ true
-    → none_retired (nonzero (take (b + n) slots)) ≡ none_retired (nonzero (take n (drop b slots)))
-none_block slots b n h =
-    rw (take-add b n slots, nonzero_append (take b slots) (take n (drop b slots)), none_append (nonzero (take b slots)) (nonzero (take n (drop b slots))), h)
+-- Slots joined bit by bit, from the numbers that were joined before on.
+pub none_fold : (joined : ℕ) (slots : List ℕ)
+    → not (retired_bit (fold bit_or joined slots)) ≡ (not (retired_bit joined) && none_retired (nonzero slots))
+unfolding none_retired nonzero
+none_fold joined [] = sym (and_true (not (retired_bit joined)))
+none_fold joined (x ∷ slots) =
+    rw (
+      nonzero_append (x ∷ []) slots,
+      none_append (nonzero (x ∷ [])) (nonzero slots),
+      none_slot x,
+      none_fold (bit_or joined x) slots,
+      retired_or joined x,
+      not_or (retired_bit joined) (retired_bit x),
+    )
+    (and_assoc (not (retired_bit joined)) (not (retired_bit x)) (none_retired (nonzero slots)))
 
--- Where one of the first n slots is retired, one of more slots is.
-pub some_more : (slots : List ℕ) (n len : ℕ) → n ≤ len → none_retired (nonzero (take n slots)) ≡ false → none_retired (nonzero (take len slots)) ≡ false
-some_more slots n len h out =
-    let more = len - n in
-    let e : len ≡ n + more = omega arith in
-    rw (e, take-add n more slots, nonzero_append (take n slots) (take more (drop n slots)), none_append (nonzero (take n slots)) (nonzero (take more (drop n slots))), out)
+-- The first n slots, and what is left.
+none_cut : (n : ℕ) (slots : List ℕ)
+    → none_retired (nonzero slots) ≡ (none_retired (nonzero (take n slots)) && none_retired (nonzero (drop n slots)))
+none_cut n slots =
+    ap (λ (xs : List ℕ). none_retired (nonzero xs)) (sym (take-append-drop n slots))
+    ∙ rw (nonzero_append (take n slots) (drop n slots)) (none_append (nonzero (take n slots)) (nonzero (drop n slots)))
+
+-- The first k blocks of n slots each, of which none has a retired boat, and what is left.
+pub none_blocks : (n k : ℕ) (slots : List ℕ)
+    → AllWithin (λ (xs : List ℕ). none_retired (nonzero xs) ≡ true) (first_chunks n k slots) 0 (length (first_chunks n k slots))
+    → none_retired (nonzero slots) ≡ none_retired (nonzero (drop (k * n) slots))
+none_blocks n zero slots none = rw (zero-mul n) refl
+none_blocks n (suc k) slots none =
+    let next : n + k * n ≡ suc k * n = omega arith in
+    let first : none_retired (nonzero (take n slots)) ≡ true = none 0 [] (omega arith) (omega arith) in
+    let rest = none_blocks n k (drop n slots) (λ i d low most. none (suc i) d (omega arith) (omega arith)) in
+    none_cut n slots ∙ rw (first, ← next, ← drop-drop (k * n) n slots) rest
+
+-- One of the first k blocks has a retired boat.
+pub some_block : (n k : ℕ) (slots : List ℕ) (i : ℕ) → i < length (first_chunks n k slots)
+    → HoldsAt (λ (xs : List ℕ). none_retired (nonzero xs) ≡ false) (first_chunks n k slots) i → none_retired (nonzero slots) ≡ false
+some_block n zero slots i inside out = absurd (omega (arith, inside))
+some_block n (suc k) slots zero inside out = none_cut n slots ∙ rw (out [])
+some_block n (suc k) slots (suc i) inside out =
+    none_cut n slots
+    ∙ rw (some_block n k (drop n slots) i (omega (arith, inside)) (λ d. out d)) (false_and (none_retired (nonzero (take n slots))))
+  where
+    false_and : (b : Bool) → (b && false) ≡ false
+    false_and true = refl
+    false_and false = refl

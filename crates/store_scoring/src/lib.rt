@@ -38,11 +38,9 @@ pub fn tally_of(slots: &[u64], from: usize, len: usize, entries: usize) -> usize
     requires number { entries ≡ length (nonzero (take len (drop from slots.now))) }
     ensures { result ≡ tally (nonzero (take len (drop from slots.now))) }
 {
-    let mut retired: usize = 0;
-    let mut i: usize = 0;
-    while i < len {
-        retired += retired_in(slots[from + i]);
-        i += 1;
+    let mut retired = 0;
+    for slot in &slots[from..from + len] {
+        retired += retired_in(*slot);
     }
     entries - retired
 }
@@ -66,18 +64,12 @@ pub fn scoring_among(slots: &[u64], from: usize, count: usize) -> usize
     scoring
 }
 
-// No boat with an entry in the `len` slots from `from` on is retired. The slots are joined bit by bit and the bit is looked at once, since in a
-// sheet all have to be looked at.
-fn none_among(slots: &[u64], from: usize, len: usize) -> bool
-    requires room { from + len ≤ length slots.now }
-    ensures { result ≡ none_retired (nonzero (take len (drop from slots.now))) }
+// No boat with an entry in these slots is retired. The slots are joined bit by bit and the bit is looked at once, since in a sheet all have to
+// be looked at.
+fn none_among(slots: &[u64]) -> bool
+    ensures { result ≡ none_retired (nonzero slots.now) }
 {
-    let mut joined: u64 = 0;
-    let mut i: usize = 0;
-    while i < len {
-        joined = joined | slots[from + i];
-        i += 1;
-    }
+    let joined = slots.iter().fold(0, |joined, slot| joined | *slot);
     !is_retired(joined)
 }
 
@@ -86,12 +78,6 @@ pub fn none_retired(slots: &[u64], len: usize) -> bool
     requires room { len ≤ length slots.now }
     ensures { result ≡ none_retired (nonzero (take len slots.now)) }
 {
-    let mut at: usize = 0;
-    while 64 <= len - at {
-        if !none_among(slots, at, 64) {
-            return false;
-        }
-        at += 64;
-    }
-    none_among(slots, at, len - at)
+    let (blocks, rest) = slots[..len].as_chunks::<64>();
+    blocks.iter().all(|block| none_among(block)) && none_among(rest)
 }

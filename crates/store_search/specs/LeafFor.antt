@@ -1,10 +1,10 @@
 -- The leaf in which an entry with a key stands or would stand, by the balance entries and the counts of the ranges. Definitions only.
-use Rattle.std.specs.Prelude.{List, ℕ, zero, suc, ◌+◌, ◌-◌, ◌*◌, ◌^◌, get_or}
+use Rattle.std.specs.Prelude.{List, Result, ℕ, zero, suc, ◌+◌, ◌-◌, ◌*◌, ◌^◌, get_or}
 use Rattle.base.specs.Cases.{if_lt}
 use Rattle.tree_sizes.specs.Sizes.{height, leaf_slots}
 use Rattle.store_keys.specs.Key.{key, rank_of, present}
-use Rattle.store_search.specs.declared.Sought.{Sought}
 use Rattle.store_search.specs.declared.Start.{Start}
+use Rattle.store_search.specs.Sought.{sought_at}
 
 -- The range number of a leaf, and the number of entries that stand before it.
 pub record LeafBehind : Type 0 where
@@ -26,6 +26,6 @@ start_for M counts balance x = record {
   before = (leaf_for (height M) counts balance x 1 0).before;
 }
 
--- The rank of a key among some entries and those before them, and whether one of them has this key.
-unfoldable pub sought_behind : ℕ → ℕ → List ℕ → Sought
-sought_behind before x list = record { rank = before + rank_of x list; present = present x list }
+-- The rank of a key among some entries and those before them, where one of them has this key, or that at which it would stand.
+unfoldable pub sought_behind : ℕ → ℕ → List ℕ → Result ℕ ℕ
+sought_behind before x list = sought_at (present x list) (before + rank_of x list)

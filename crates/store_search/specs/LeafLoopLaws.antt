@@ -1,5 +1,5 @@
 -- The loop through a leaf: one slot, its start, one slot more, and its end.
-use Rattle.std.specs.Prelude.{◌≡◌, refl, Bool, false, ◌||◌, ◌≢◌, ℕ, suc, ◌+◌, ◌≤◌, ◌<◌, eqb, length, get_or, drop}
+use Rattle.std.specs.Prelude.{◌≡◌, refl, Bool, false, Result, ◌||◌, ◌≢◌, ℕ, suc, ◌+◌, ◌≤◌, ◌<◌, eqb, length, get_or, drop}
 use Rattle.std.proofs.Common.{sym, ap, ◌∙◌, add-zero, add-one, arith, drop-cons}
 use Rattle.std.proofs.Math.Path.{ap₂}
 use Rattle.std.proofs.Math.Bool.{or_assoc, or-false}
@@ -10,7 +10,7 @@ use Rattle.store_layout.specs.Leaf.{nonzero}
 use Rattle.store_layout.proofs.LeafLaws.{nonzero_append, nonzero_zero, nonzero_entry, nonzero_length}
 use Rattle.store_keys.specs.Key.{key, rank_of, present}
 use Rattle.store_keys.specs.KeyLaws.{rank_most, rank_append, present_append}
-use Rattle.store_search.specs.declared.Sought.{Sought}
+use Rattle.store_search.specs.Sought.{sought_at}
 use Rattle.store_search.specs.LeafFor.{sought_behind}
 use Rattle.store_search.specs.LeafLoop.{Passed}
 
@@ -71,9 +71,9 @@ module _ {slots : List ℕ} {before x i rank : ℕ} {found : Bool} (w : Passed s
           presence = or_assoc found (present x (nonzero (held ∷ []))) (present x (nonzero (drop (suc i) slots))) ∙ presence;
         }
 
-  pub passed_all : length slots ≤ i → ◌≡◌ {A = Sought} (record { rank = rank; present = found }) (sought_behind before x (nonzero slots))
+  pub passed_all : length slots ≤ i → sought_at found rank ≡ sought_behind before x (nonzero slots)
   unfolding sought_behind nonzero rank_of present
   passed_all h =
       let none = drop_of_length-le slots {i = i} h in
-      ap₂ {C = Sought} (λ (r : ℕ) (p : Bool). record { rank = r; present = p })
+      ap₂ {C = Result ℕ ℕ} (λ (r : ℕ) (p : Bool). sought_at p r)
       (sym (add-zero rank) ∙ rw none at w.ranks) (sym (or-false found) ∙ rw none at w.presence)

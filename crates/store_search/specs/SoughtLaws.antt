@@ -1,7 +1,7 @@
 -- The search for a key in the slices of a sheet whose list rises comes to the rank of the key and whether it is there.
-use Rattle.std.specs.Prelude.{◌≡◌, List, ℕ, ◌+◌, ◌-◌, ◌*◌, ◌^◌, ◌≤◌, ◌<◌, take, drop, replicate}
+use Rattle.std.specs.Prelude.{◌≡◌, Bool, true, false, Result, Ok, Err, List, ℕ, ◌+◌, ◌-◌, ◌*◌, ◌^◌, ◌≤◌, ◌<◌, take, drop, replicate}
 use Rattle.std.proofs.Math.Path.{refl, ap}
-use Rattle.std.proofs.Common.{◌∙◌, zero-add}
+use Rattle.std.proofs.Common.{sym, ◌∙◌, zero-add}
 use Rattle.std.proofs.Math.ListN.{length}
 use Rattle.std.proofs.Math.Nat.{mul-le-mul_left}
 use native.Mathlib.Omega.{arith}
@@ -24,11 +24,35 @@ use Rattle.store_balance.specs.Balance.{lay_balance}
 use Rattle.store_balance.specs.BalanceLaws.{length_lay_balance, balance_holds}
 use Rattle.store_keys.specs.Key.{Rises, rank_of}
 use Rattle.store_keys.specs.KeyLaws.{rank_most}
-use Rattle.store_search.specs.declared.Sought.{Sought}
-use Rattle.store_search.specs.Sought.{sought_in, SearchReady}
+use Rattle.store_search.specs.Sought.{sought_at, sought_in, SearchReady}
 use Rattle.store_search.specs.LeafFor.{leaf_for, start_for, sought_behind}
 use Rattle.store_search.specs.Searchable.{Searchable}
 use Rattle.store_search.specs.LeafForLaws.{leaf_for_below, range_found}
+
+-- ---- what is told by what is found
+
+-- The rank of either kind.
+ranked : Result ℕ ℕ → ℕ
+ranked (Ok rank) = rank
+ranked (Err rank) = rank
+
+ranked_at : (there : Bool) (rank : ℕ) → ranked (sought_at there rank) ≡ rank
+unfolding ranked sought_at
+ranked_at true rank = refl
+ranked_at false rank = refl
+
+sought_ranks : (there there' : Bool) (rank rank' : ℕ) → sought_at there rank ≡ sought_at there' rank' → rank ≡ rank'
+sought_ranks there there' rank rank' same = sym (ranked_at there rank) ∙ ap ranked same ∙ ranked_at there' rank'
+
+pub sought_ok : (there : Bool) (rank r : ℕ) → Ok r ≡ sought_at there rank → (there ≡ true) × (r ≡ rank)
+unfolding sought_at
+sought_ok true rank r found = (refl, cc)
+sought_ok false rank r found = absurd (cc)
+
+pub sought_err : (there : Bool) (rank r : ℕ) → Err r ≡ sought_at there rank → (there ≡ false) × (r ≡ rank)
+unfolding sought_at
+sought_err true rank r found = absurd (cc)
+sought_err false rank r found = (refl, cc)
 
 -- ---- the sheet of a list with a shape
 
@@ -94,7 +118,7 @@ module _ (cap : Capacity) (list : List ℕ) (s : Shape) (ready : CapacityReady c
       slots_room = laid_inside;
       small = omega (
         arith,
-        ap (λ (p : Sought). p.rank) (laid_found rising),
+        sought_ranks _ _ _ _ (laid_found rising),
         rank_most x list,
         leaf_slots_most s.size (omega (arith, size_most)),
         w.room,

@@ -12,13 +12,6 @@ use store_keys::key;
 use store_layout::count_at;
 use tree_sizes::Size;
 
-// The rank of a key among the entries of a sheet, and whether an entry with this key is there.
-#[derive(Clone, Copy)]
-pub struct Sought {
-    pub rank: usize,
-    pub present: bool,
-}
-
 // The first slot of a leaf, and the number of entries that stand before it.
 #[derive(Clone, Copy)]
 struct Start {
@@ -35,11 +28,9 @@ fn start_for(size: Size, counts: &[u32], balance: &[u64], k: u64) -> Start
     ensures { result ≡ start_for size.m counts.now balance.now k }
 {
     let h = size.height();
-    let mut levels = h;
-    let mut range: usize = 1;
-    let mut before: usize = 0;
-    while 0 < levels {
-        levels -= 1;
+    let mut range = 1;
+    let mut before = 0;
+    for _depth in 0..h {
         let middle = key(balance[range]);
         range = 2 * range;
         let n = count_at(counts, range);
@@ -76,9 +67,9 @@ fn has_key(held: u64, k: u64) -> bool
     key(held) == k
 }
 
-// The key k among the entries of the leaf, of so many slots, that starts there. All its slots are looked at, so that the loop needs no
+// The key k among the entries of the leaf, of so many slots, that starts there, as `search` gives it. All its slots are looked at, so that the loop needs no
 // branch for what a slot holds.
-fn search_leaf(slots: &[u64], start: Start, len: usize, k: u64) -> Sought
+fn search_leaf(slots: &[u64], start: Start, len: usize, k: u64) -> Result<usize, usize>
     requires room { start.slot + len ≤ length slots.now }
     requires small { start.before + len < 2 ^ 64 }
     ensures { result ≡ sought_behind start.before k (nonzero (take len (drop start.slot slots.now))) }
@@ -86,21 +77,21 @@ fn search_leaf(slots: &[u64], start: Start, len: usize, k: u64) -> Sought
     let from = start.slot;
     let mut rank = start.before;
     let mut present = false;
-    let mut i: usize = 0;
-    while i < len {
-        let held = slots[from + i];
-        rank += count_below(held, k);
-        present = present | has_key(held, k);
-        i += 1;
+    for held in &slots[from..from + len] {
+        rank += count_below(*held, k);
+        present |= has_key(*held, k);
     }
-    Sought {
-        rank: rank,
-        present: present,
-    }
+    if present { Ok(rank) } else { Err(rank) }
 }
 
-// The key of the entry in a sheet of this size: its rank, and whether an entry with this key is there.
-pub fn search(size: Size, slots: &[u64], counts: &[u32], balance: &[u64], entry: u64) -> Sought
+// The rank of the entry with the key of this one in a sheet of this size; an error is the rank at which it would stand, where none is there.
+pub fn search(
+    size: Size,
+    slots: &[u64],
+    counts: &[u32],
+    balance: &[u64],
+    entry: u64,
+) -> Result<usize, usize>
     requires { SearchReady size.m slots.now counts.now balance.now }
     ensures { result ≡ sought_in (keys.key entry) (nonzero slots.now) }
 {

@@ -1,7 +1,7 @@
 -- Loops that write entries into a list, one after the other: the start, what one entry more leaves, and the end.
-use Rattle.std.specs.Prelude.{◌≡◌, refl, List, ◌∷◌, ◌++◌, ℕ, suc, ◌+◌, ◌-◌, ◌≤◌, ◌<◌, length, get_or, take, drop, set, replicate}
-use Rattle.std.proofs.Common.{sym, ◌∙◌, append_assoc, append-nil, zero-add, add-one, arith, length-drop, length-set, drop_of_length-le, length-take-le, take_all, take-suc, drop-cons, get_or-take, get_or-drop, get_or-append-add}
-use Rattle.std.proofs.lemmas.List.{length-replicate, get_or-replicate, set_at}
+use Rattle.std.specs.Prelude.{◌≡◌, refl, List, ◌∷◌, ◌++◌, ℕ, suc, ◌+◌, ◌-◌, ◌≤◌, ◌<◌, length, get_or, take, drop, set}
+use Rattle.std.proofs.Common.{◌∙◌, append_assoc, append-nil, zero-add, add-one, arith, length-set, drop_of_length-le, length-take-le, take_all, take-suc, get_or-take, get_or-drop, get_or-append-add}
+use Rattle.std.proofs.lemmas.List.{set_at}
 use Rattle.std.proofs.Math.ListN.{get_or-append}
 use Rattle.std.proofs.Math.Seq.{paste-zero, paste-suc, length_paste_head}
 use Rattle.store_slices.specs.Pasted.{Pasted}
@@ -61,48 +61,9 @@ copied_all {old} {source} {i = i} w same end =
 
 -- ---- entries moved by one place
 
-module _ {old new : List ℕ} where
-  -- The entries from j up to, not including, n stand one place further right; then the one before them too.
-  pub shifted_right : (n j : ℕ) → Pasted old (j + 1) (drop j old) (n - j) new → 0 < j → j ≤ n → n < length old
-      → Pasted old (j - 1 + 1) (drop (j - 1) old) (n - (j - 1)) (set new j (get_or new (j - 1) 0))
-  shifted_right n j w pos within room =
-      let one : j - 1 + 1 ≡ j = omega arith in
-      let next : suc (j - 1) ≡ j = omega arith in
-      let more : n - (j - 1) ≡ n - j + 1 = omega arith in
-      rw (one, more, drop-cons old (j - 1) 0 (omega arith), next, pasted_front w (j - 1) (omega arith) (omega arith))
-      (pasted_before w (get_or old (j - 1) 0) (omega arith))
-
-  -- Those from i up to n are moved so, and e is put in.
-  pub shifted_put : (n i j e : ℕ) → Pasted old (j + 1) (drop j old) (n - j) new → i ≡ j → i ≤ n → n < length old
-      → set new i e ≡ take i old ++ (e ∷ take (n - i) (drop i old)) ++ drop (n + 1) old
-  shifted_put n i j e w end within room =
-      let moved : Pasted old (i + 1) (drop i old) (n - i) new = rw end w in
-      let all : i + suc (n - i) ≡ n + 1 = omega arith in
-      rw (add-one (n - i)) at (pasted_before moved e (omega arith)).is ∙ rw all
-
-  -- The entries behind i, up to and including j, stand one place further left; then the next one too.
-  pub shifted_left : (i j : ℕ) → Pasted old i (drop (i + 1) old) (j - i) new → i ≤ j → j + 1 < length old
-      → Pasted old i (drop (i + 1) old) (j + 1 - i) (set new j (get_or new (j + 1) 0))
-  shifted_left i j w start room =
-      let more : j + 1 - i ≡ j - i + 1 = omega arith in
-      let index : i + 1 + (j - i) ≡ j + 1 = omega arith in
-      let left : j - i < length (drop (i + 1) old) = omega (arith, length-drop (i + 1) old) in
-      rw more
-      (pasted_next w j (get_or new (j + 1) 0) (omega arith) (omega arith) left
-      (pasted_behind w (j + 1) (omega arith) (omega arith) (omega arith) ∙ sym (get_or-drop (i + 1) old (j - i) 0 ∙ rw index)))
-
-  -- ---- one number written to each index from `from` up to, not including, `to`
-
-  pub filled_next : (from to x i : ℕ) → Pasted old from (replicate (to - from) x) (i - from) new → from ≤ i → i < to → to ≤ length old
-      → Pasted old from (replicate (to - from) x) (i + 1 - from) (set new i x)
-  filled_next from to x i w start more room =
-      let next : i + 1 - from ≡ i - from + 1 = omega arith in
-      rw next
-      (pasted_next w i x (omega arith) (omega arith) (omega (arith, length-replicate (to - from) x))
-      (sym (get_or-replicate (to - from) (i - from) x 0 (omega arith))))
-
-  pub filled_all : (from to x i : ℕ) → Pasted old from (replicate (to - from) x) (i - from) new → from ≤ to → i ≡ to
-      → new ≡ take from old ++ replicate (to - from) x ++ drop to old
-  filled_all from to x i w order end =
-      let all : from + (to - from) ≡ to = omega arith in
-      w.is ∙ rw (end, take_all (to - from) (replicate (to - from) x) (omega (arith, length-replicate (to - from) x)), all)
+-- The entries from i up to, not including, n stand one place further right, and e is put in before them.
+pub shifted_put : {old new : List ℕ} (n i e : ℕ) → Pasted old (i + 1) (drop i old) (n - i) new → i ≤ n → n < length old
+    → set new i e ≡ take i old ++ (e ∷ take (n - i) (drop i old)) ++ drop (n + 1) old
+shifted_put n i e moved within room =
+    let all : i + suc (n - i) ≡ n + 1 = omega arith in
+    rw (add-one (n - i)) at (pasted_before moved e (omega arith)).is ∙ rw all

@@ -16,11 +16,7 @@ fn put_in(list: &mut [u64], n: usize, i: usize, e: u64)
     ensures { list.new
         ≡ take i list.old ++ (e ∷ take (n - i) (drop i list.old)) ++ drop (n + 1) list.old }
 {
-    let mut j = n;
-    while i < j {
-        list[j] = list[j - 1];
-        j -= 1;
-    }
+    list.copy_within(i..n, i + 1);
     list[i] = e;
 }
 
@@ -31,11 +27,7 @@ fn take_out(list: &mut [u64], n: usize, i: usize)
     ensures { list.new
         ≡ take i list.old ++ take (n - (i + 1)) (drop (i + 1) list.old) ++ drop (n - 1) list.old }
 {
-    let mut j = i;
-    while j + 1 < n {
-        list[j] = list[j + 1];
-        j += 1;
-    }
+    list.copy_within(i + 1..n, i);
 }
 
 // Carries the change out on the first n entries of the list: the entry e comes in, or the entry at the rank goes out.
@@ -57,11 +49,7 @@ pub fn zero_slots(slots: &mut [u64], from: usize, to: usize)
     ensures { slots.new
         ≡ take from slots.old ++ replicate (to - from) 0 ++ drop to slots.old }
 {
-    let mut slot = from;
-    while slot < to {
-        slots[slot] = 0;
-        slot += 1;
-    }
+    slots[from..to].fill(0);
 }
 
 // The slot behind the first `first` entries of those from `start` on: the others stand from it on.

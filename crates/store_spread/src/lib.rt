@@ -11,7 +11,8 @@ ghost use Rattle.store_layout.specs.Ready.{LeavesReady};
 ghost use Rattle.store_spread.specs.SlotEntries.{entry_table};
 ghost use Rattle.store_spread.specs.Ready.{TableReady};
 
-use store_layout::{Leaf, count_at};
+use crate::table::{entries_of_21, entries_of_24, entries_of_27, entries_of_30, entries_of_33};
+use store_layout::Leaf;
 
 pub mod table; // table.rt: which entry stands in which slot
 
@@ -35,51 +36,46 @@ fn spread_leaf(slots: &mut [u64], leaf: Leaf, list: &[u64], entries: &[u8], row:
         ++ spread leaf.slots (take leaf.entries (drop leaf.at list.now))
         ++ drop (leaf.from + leaf.slots) slots.old }
 {
-    let mut i: usize = 0;
-    while i < leaf.slots {
+    for i in 0..leaf.slots {
         write_slot(slots, leaf, list, entries, row, i);
-        i += 1;
     }
 }
 
-// Lays leaves of s slots out one after the other by their table. While a leaf is written, a 0 stands in the list behind its entries.
-fn lay_by_table(
+// Lays leaves of S slots out one after the other by their table. While a leaf is written, a 0 stands in the list behind its entries.
+fn lay_by_table<const S: usize>(
     slots: &mut [u64],
     from: usize,
-    s: usize,
     entries: &[u8],
     counts: &[u32],
     first: usize,
     leaves: usize,
     list: &mut [u64],
 )
-    requires ready { LeavesReady slots.old from s counts.now first leaves list.old }
+    requires ready { LeavesReady slots.old from S counts.now first leaves list.old }
     requires room { total (take leaves (drop first counts.now)) < length list.old }
-    requires table { entries.now ≡ entry_table s }
+    requires table { entries.now ≡ entry_table S }
     ensures { slots.new
         ≡ take from slots.old
-        ++ lay_leaves s (take leaves (drop first counts.now)) list.old
-        ++ drop (from + s * leaves) slots.old }
+        ++ lay_leaves S (take leaves (drop first counts.now)) list.old
+        ++ drop (from + S * leaves) slots.old }
 {
-    let mut j: usize = 0;
     let mut to = from;
     let mut at: usize = 0;
-    while j < leaves {
-        let n = count_at(counts, first + j);
+    for count in &counts[first..first + leaves] {
+        let n = *count as usize;
         let leaf = Leaf {
             from: to,
-            slots: s,
+            slots: S,
             at: at,
             entries: n,
         };
         let end = at + n;
         let behind = list[end];
         list[end] = 0;
-        spread_leaf(slots, leaf, list, entries, n * s);
+        spread_leaf(slots, leaf, list, entries, n * S);
         list[end] = behind;
-        to += s;
+        to += S;
         at = end;
-        j += 1;
     }
 }
 
@@ -101,22 +97,12 @@ pub fn lay_leaves(
         ++ lay_leaves s (take leaves (drop first counts.now)) list.old
         ++ drop (from + s * leaves) slots.old }
 {
-    if s == 21 {
-        let entries = table::entries_of_21();
-        lay_by_table(slots, from, 21, &entries, counts, first, leaves, list);
-    } else if s == 24 {
-        let entries = table::entries_of_24();
-        lay_by_table(slots, from, 24, &entries, counts, first, leaves, list);
-    } else if s == 27 {
-        let entries = table::entries_of_27();
-        lay_by_table(slots, from, 27, &entries, counts, first, leaves, list);
-    } else if s == 30 {
-        let entries = table::entries_of_30();
-        lay_by_table(slots, from, 30, &entries, counts, first, leaves, list);
-    } else if s == 33 {
-        let entries = table::entries_of_33();
-        lay_by_table(slots, from, 33, &entries, counts, first, leaves, list);
-    } else {
-        store_layout::lay_leaves(slots, from, s, counts, first, leaves, list);
+    match s {
+        21 => lay_by_table::<21>(slots, from, &entries_of_21(), counts, first, leaves, list),
+        24 => lay_by_table::<24>(slots, from, &entries_of_24(), counts, first, leaves, list),
+        27 => lay_by_table::<27>(slots, from, &entries_of_27(), counts, first, leaves, list),
+        30 => lay_by_table::<30>(slots, from, &entries_of_30(), counts, first, leaves, list),
+        33 => lay_by_table::<33>(slots, from, &entries_of_33(), counts, first, leaves, list),
+        _ => store_layout::lay_leaves(slots, from, s, counts, first, leaves, list),
     }
 }

@@ -17,10 +17,8 @@ fn add_halves(numbers: &mut [u32], first: usize, end: usize)
     requires small { (k : ℕ) → first ≤ k → k < end → halves_sum numbers.old k < 2 ^ 32 }
     ensures { Filled (halves_sum numbers.old) first end numbers.old numbers.new }
 {
-    let mut k = first;
-    while k < end {
+    for k in first..end {
         numbers[k] = numbers[2 * k] + numbers[2 * k + 1];
-        k += 1;
     }
 }
 
@@ -43,14 +41,12 @@ pub fn halves_add_up(numbers: &[u32], end: usize) -> bool
     requires { 2 * end ≤ length numbers.now }
     ensures { (result ≡ true) ↔ Agrees (halves_sum numbers.now) 1 end numbers.now }
 {
-    let mut k: usize = 1;
-    while k < end {
+    for k in 1..end {
         let left = numbers[2 * k] as usize;
         let right = numbers[2 * k + 1] as usize;
         if numbers[k] as usize != left + right {
             return false;
         }
-        k += 1;
     }
     true
 }
@@ -71,10 +67,8 @@ pub fn entries_in(slots: &[u64], from: usize, len: usize) -> usize
     ensures { result ≡ length (nonzero (take len (drop from slots.now))) }
 {
     let mut entries: usize = 0;
-    let mut i: usize = 0;
-    while i < len {
-        entries += entry_in(slots[from + i]);
-        i += 1;
+    for slot in &slots[from..from + len] {
+        entries += entry_in(*slot);
     }
     entries
 }
@@ -88,10 +82,8 @@ fn count_leaves(size: Size, slots: &[u64], counts: &mut [u32])
 {
     let s = size.leaf_slots();
     let leaves = power(size.height());
-    let mut k = leaves;
-    while k < 2 * leaves {
+    for k in leaves..2 * leaves {
         counts[k] = entries_in(slots, s * (k - leaves), s) as u32;
-        k += 1;
     }
 }
 

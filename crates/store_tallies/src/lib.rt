@@ -31,10 +31,8 @@ fn count_leaves(
 {
     let s = size.leaf_slots();
     let leaves = power(size.height());
-    let mut k = first;
-    while k < end {
+    for k in first..end {
         tallies[k] = tally_of(slots, s * (k - leaves), s, count_at(counts, k)) as u32;
-        k += 1;
     }
 }
 
@@ -72,12 +70,10 @@ fn leaves_have_tallies(size: Size, slots: &[u64], counts: &[u32], numbers: &[u32
 {
     let s = size.leaf_slots();
     let leaves = power(size.height());
-    let mut k = leaves;
-    while k < 2 * leaves {
+    for k in leaves..2 * leaves {
         if count_at(numbers, k) != tally_of(slots, s * (k - leaves), s, count_at(counts, k)) {
             return false;
         }
-        k += 1;
     }
     true
 }
@@ -111,11 +107,9 @@ pub fn tally_before(size: Size, tallies: &[u32], leaf: usize) -> usize
     requires room { 2 * 2 ^ height size.m ≤ length tallies.now }
     ensures { result ≡ path_tally tallies.now leaf (height size.m) 1 }
 {
-    let mut levels = size.height();
-    let mut k: usize = 1;
-    let mut sum: usize = 0;
-    while 0 < levels {
-        levels -= 1;
+    let mut k = 1;
+    let mut sum = 0;
+    for levels in (0..size.height()).rev() {
         k = 2 * k;
         if (k + 1) * power(levels) <= leaf {
             sum += tallies[k] as usize;

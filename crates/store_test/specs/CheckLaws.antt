@@ -1,5 +1,5 @@
 -- The tests that code makes of a store decide whether it is a sheet.
-use Rattle.std.specs.Prelude.{◌≡◌, ℕ, ◌+◌, ◌-◌, ◌*◌, ◌^◌, ◌≤◌, true, ◌&&◌, List, ◌++◌, length, take, drop, replicate, nat_le, slice_index, slice_index_or}
+use Rattle.std.specs.Prelude.{◌≡◌, ℕ, ◌-◌, ◌*◌, ◌^◌, ◌≤◌, true, ◌&&◌, List, ◌++◌, length, take, drop, replicate, nat_le, slice_index, slice_index_or}
 use Rattle.std.proofs.Math.Path.{refl, sym, ap₂}
 use Rattle.std.proofs.Common.{ap, ◌∙◌, length-drop, take-append-drop, drop_at, one-mul, arith, le-leb, leb-true}
 use Rattle.base.specs.Lists.{Every, total}

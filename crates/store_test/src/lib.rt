@@ -33,14 +33,11 @@ fn level_is_balanced(counts: &[u32], c: usize, first: usize) -> bool
     let half = Size::half_candidates(c) as u32;
     let candidates = c as u32;
     let mut all = true;
-    let mut i: usize = 0;
-    while i < first {
-        let k = first + i;
+    for k in first..2 * first {
         let n = counts[k];
         let b = counts[2 * k];
         let right = counts[2 * k + 1];
         all = all & range_is_balanced(n, b, right, half, candidates);
-        i += 1;
     }
     all
 }
@@ -57,13 +54,11 @@ fn tree_is_balanced(m: usize, h: usize, counts: &[u32]) -> bool
     let mut c = size.candidates(0);
     let mut all = true;
     let mut first: usize = 1;
-    let mut levels = h;
-    while 0 < levels {
+    for _level in 0..h {
         let level = level_is_balanced(counts, c, first);
         all = all & level;
         c = Size::half_candidates(c);
         first = 2 * first;
-        levels -= 1;
     }
     all
 }

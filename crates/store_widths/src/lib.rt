@@ -9,10 +9,8 @@ pub fn widen(narrow: &[u16], wide: &mut [u32])
     requires { length wide.old ≡ length narrow.now }
     ensures { wide.new ≡ narrow.now }
 {
-    let mut i = 0;
-    while i < narrow.len() {
-        wide[i] = narrow[i] as u32;
-        i += 1;
+    for (i, number) in narrow.iter().enumerate() {
+        wide[i] = u32::from(*number);
     }
 }
 
@@ -23,11 +21,7 @@ pub fn narrow_ranges(wide: &[u32], narrow: &mut [u16])
     requires fit { Every (λ c. c < 2 ^ 16) wide.now }
     ensures { narrow.new ≡ get_or narrow.old 0 0 ∷ drop 1 wide.now }
 {
-    let mut i: usize = 1;
-    while i < wide.len() {
-        narrow[i] = wide[i] as u16;
-        i += 1;
-    }
+    crate::narrow(&wide[1..], &mut narrow[1..]);
 }
 
 // Makes the tallies the counts, which fit, but 0 at number 0.
@@ -47,25 +41,21 @@ pub fn narrow(wide: &[u32], narrow: &mut [u16])
     requires fit { Every (λ c. c < 2 ^ 16) wide.now }
     ensures { narrow.new ≡ wide.now }
 {
-    let mut i = 0;
-    while i < wide.len() {
-        narrow[i] = wide[i] as u16;
-        i += 1;
+    for (i, number) in wide.iter().enumerate() {
+        narrow[i] = *number as u16;
     }
 }
 
-// The tallies from `from` on are the counts, which have 32 bits. The differences are joined bit by bit and compared with 0 once, since in a sheet
-// all have to be looked at.
-fn same_from(tallies: &[u16], counts: &[u32], from: usize) -> bool
+// The tallies are the counts, which have 32 bits. The differences are joined bit by bit and compared with 0 once, since in a sheet all have to be
+// looked at.
+fn are_same(tallies: &[u16], counts: &[u32]) -> bool
     requires { length tallies.now ≡ length counts.now }
-    ensures { result ≡ equal_lists (drop from tallies.now) (drop from counts.now) }
+    ensures { result ≡ equal_lists tallies.now counts.now }
 {
-    let mut joined: u32 = 0;
-    let mut k = from;
-    while k < tallies.len() {
-        joined = joined | ((tallies[k] as u32) ^ counts[k]);
-        k += 1;
-    }
+    let pairs = tallies.iter().zip(counts.iter());
+    let joined = pairs.fold(0, |joined, (tally, count)| {
+        joined | (u32::from(*tally) ^ *count)
+    });
     joined == 0
 }
 
@@ -75,8 +65,5 @@ pub fn are_counts(tallies: &[u16], counts: &[u32]) -> bool
     requires some { 0 < length tallies.now }
     ensures { result ≡ equal_lists tallies.now (0 ∷ drop 1 counts.now) }
 {
-    if tallies[0] != 0 {
-        return false;
-    }
-    same_from(tallies, counts, 1)
+    tallies[0] == 0 && are_same(&tallies[1..], &counts[1..])
 }

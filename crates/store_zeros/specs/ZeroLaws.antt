@@ -1,9 +1,10 @@
 -- Laws of the test that every number of a list is 0, and of the loop that makes it.
-use Rattle.std.specs.Prelude.{◌≡◌, refl, Bool, true, false, ◌&&◌, List, [], ◌∷◌, ◌++◌, ℕ, zero, suc, ◌+◌, ◌-◌, ◌≤◌, ◌<◌, eqb, length, get_or, take, drop, replicate}
-use Rattle.std.proofs.Common.{sym, ap, ap₂, ◌∙◌, drop_of_length-le, take-append-drop, drop-cons, get_or-drop, suc-add, zero-add, arith, eq-eqb, eqb-true}
+use Rattle.std.specs.Prelude.{◌≡◌, refl, Bool, true, false, ◌&&◌, List, [], ◌∷◌, ◌++◌, ℕ, zero, suc, ◌+◌, ◌-◌, ◌*◌, ◌≤◌, ◌<◌, eqb, length, get_or, take, drop, replicate}
+use Rattle.std.proofs.Common.{sym, ap, ap₂, ◌∙◌, drop_of_length-le, take-append-drop, drop-cons, drop-drop, get_or-drop, take_all, length-drop, zero-mul, arith, eq-eqb, eqb-true}
 use Rattle.std.specs.Int.Bits.{bit_or, or_add_and}
+use Rattle.std.specs.List.{slice_range}
+use Rattle.std.specs.Simd.{first_chunks}
 use Rattle.std.proofs.lemmas.Nat.{and_le_l, and_le_r}
-use Rattle.std.proofs.Math.Seq.{drop-nil}
 use Rattle.std.proofs.Math.Numerals.{add-one}
 use Rattle.base.specs.BoolLaws.{and_true_left, and_true_right, and_both, and_assoc, and_true, tests_agree}
 use Rattle.base.specs.ListLaws.{replicate_at}
@@ -44,14 +45,9 @@ unfolding all_zero
 zero_append [] ys = refl
 zero_append (x ∷ xs) ys = rw (zero_append xs ys) (sym (and_assoc (eqb x 0) (all_zero xs) (all_zero ys)))
 
-drop_more : (i m : ℕ) (xs : List ℕ) → drop m (drop i xs) ≡ drop (i + m) xs
-drop_more zero m xs = rw (zero-add m)
-drop_more (suc i) m [] = rw (drop-nil m, suc-add i m)
-drop_more (suc i) m (x ∷ xs) = rw (suc-add i m) (drop_more i m xs)
-
 zero_part : (xs : List ℕ) (i m : ℕ) → all_zero (drop i xs) ≡ (all_zero (take m (drop i xs)) && all_zero (drop (i + m) xs))
 zero_part xs i m =
-    ap all_zero (sym (take-append-drop m (drop i xs))) ∙ zero_append (take m (drop i xs)) (drop m (drop i xs)) ∙ rw (drop_more i m xs)
+    ap all_zero (sym (take-append-drop m (drop i xs))) ∙ zero_append (take m (drop i xs)) (drop m (drop i xs)) ∙ rw (drop-drop m i xs)
 
 module _ (xs : List ℕ) (i m : ℕ) {part : Bool} (part_is : part ≡ all_zero (take m (drop i xs))) where
   pub part_zero : part ≡ true → all_zero (drop i xs) ≡ all_zero (drop (i + m) xs)
@@ -59,6 +55,18 @@ module _ (xs : List ℕ) (i m : ℕ) {part : Bool} (part_is : part ≡ all_zero 
 
   pub part_not_zero : part ≡ false → all_zero (drop i xs) ≡ false
   part_not_zero e = zero_part xs i m ∙ rw (← part_is, e)
+
+-- The blocks of n numbers: block i, and what stands behind the blocks.
+pub block_at : (n k : ℕ) (xs d : List ℕ) (i : ℕ) → i < k → get_or (first_chunks n k xs) i d ≡ take n (drop (i * n) xs)
+block_at n zero xs d i h = absurd (omega arith)
+block_at n (suc k) xs d zero h = ap (λ (j : ℕ). take n (drop j xs)) (sym (zero-mul n))
+block_at n (suc k) xs d (suc i) h =
+    let e : suc i * n ≡ n + i * n = omega arith in
+    block_at n k (drop n xs) d i (omega arith) ∙ rw (e) (ap (take n) (drop-drop (i * n) n xs))
+
+-- The tail of a slice.
+pub tail_is : (xs : List ℕ) (i : ℕ) → slice_range xs i (length xs) ≡ drop i xs
+tail_is xs i = take_all (length xs - i) (drop i xs) (omega (arith, length-drop i xs))
 
 -- ---- from the place i on
 

@@ -1,5 +1,5 @@
 -- A change of a timed sheet: that of the plain sheet in it, and then the third slice of the sheet that is left.
-use Rattle.std.specs.Prelude.{◌≡◌, refl, List, [], ◌≢◌, ℕ, ◌+◌, length, get_or, take, drop}
+use Rattle.std.specs.Prelude.{Option, Some, None, Ok, Err, ◌≡◌, refl, List, [], ◌≢◌, ℕ, ◌+◌, length, get_or, take, drop}
 use Rattle.std.proofs.Common.{sym, ◌∙◌, subst, arith}
 use Rattle.std.proofs.Math.Path.{ap}
 use Rattle.std.proofs.Math.Option.{none}
@@ -18,7 +18,7 @@ use Rattle.store_balance.specs.BalanceInLaws.{balance_laid}
 use Rattle.store_balance_part.specs.Update.{BalanceBut, BalanceReady}
 use Rattle.store_balance_part.specs.SheetLaws.{sheet_kept}
 use Rattle.call_outcomes.specs.declared.Cause.TheVariants.{TapeEnded}
-use Rattle.call_outcomes.specs.declared.Answer.TheVariants.{Changed, Refused}
+use Rattle.call_outcomes.specs.declared.Answer.TheVariants.{Changed}
 use Rattle.call_outcomes.specs.Kind.{applied}
 use Rattle.call_outcomes.specs.Causes.{accept, store_decision, looked_at, argument_cause, decision}
 use Rattle.call_outcomes.specs.Outcome.{outcome}
@@ -31,7 +31,6 @@ use Rattle.call_outcomes.proofs.PlainLaws.{plain_lawful}
 use Rattle.call_change.specs.SheetChangeLaws as changed
 use Rattle.call_timed.specs.Timed.{balance_slice, timed_view, TimedStore, ranked, timed_store_of, timed_outcome_of}
 use Rattle.sheet_change.specs.declared.Made.{Made}
-use Rattle.sheet_change.specs.declared.Made.TheVariants.{Done, Ended}
 use Rattle.sheet_change.specs.Made.{answer_to, PartMade, MadeIn}
 use Rattle.sheet_change.specs.PlainReady.{PlainReady}
 use Rattle.sheet_change.specs.TallyLaws.{sheet_ready}
@@ -73,23 +72,29 @@ module _ {cap : Capacity} (ready : CapacityReady cap) {change : Change} {e n m :
   pub balance_number : length balance ≡ cap.counts
   balance_number = held.length_is
 
-  module _ (tape : List ℕ) (made : Made) {slots' counts' tallies' : List ℕ}
+  module _ (tape : List ℕ) (made : Option Made) {slots' counts' tallies' : List ℕ}
       (is : plain_outcome_of (answer_to made) slots' counts' tallies' [] ≡ outcome (plain cap) (changing change e) tape (plain_store_of slots counts tallies) []) where
-    pub timed_ended : made ≡ Ended → timed_outcome_of (Refused TapeEnded) slots' counts' tallies' balance [] ≡ outcome (ranked cap) (changing change e) tape store []
+    pub timed_ended : made ≡ None → timed_outcome_of (Err TapeEnded) slots' counts' tallies' balance [] ≡ outcome (ranked cap) (changing change e) tape store []
     timed_ended ended =
         slice_ended (plain cap) (balance_slice cap) (plain_calls cap.entries) (plain_change change e) (plain_change change e) tape store c plain_decided
-        p.admitted.decided refl _ (ap (λ (d : Made). plain_outcome_of (answer_to d) slots' counts' tallies' []) (sym ended) ∙ is)
+        p.admitted.decided refl _ (ap (λ (x : Option Made). plain_outcome_of (answer_to x) slots' counts' tallies' []) (sym ended) ∙ is)
 
-    module _ (confined : MadeIn m slots made slots' counts') {after words m' : ℕ} {part : Part} (done : made ≡ Done after words m' part) where
+    module _ (confined : MadeIn m slots made slots' counts') {done : Made} (is_done : made ≡ Some done) where
+      abbrev m' : ℕ
+      m' = done.m
+
+      abbrev part : Part
+      part = done.part
+
       abbrev list' : List ℕ
       list' = applied (edit_of (plain_change change e)) c.list
 
       left : SliceChanged (plain cap) (balance_slice cap) (plain_calls cap.entries) (plain_change change e) (plain_change change e) tape store c plain_decided
-          p.admitted.decided refl after words (plain_store_of slots' counts' tallies')
+          p.admitted.decided refl done.n done.words (plain_store_of slots' counts' tallies')
       left =
           slice_changed (plain cap) (balance_slice cap) (plain_calls cap.entries) (plain_change change e) (plain_change change e) tape store c plain_decided
-          p.admitted.decided refl (plain_lawful cap ready.roomy) after words (plain_store_of slots' counts' tallies')
-          (ap (λ (d : Made). plain_outcome_of (answer_to d) slots' counts' tallies' []) (sym done) ∙ is)
+          p.admitted.decided refl (plain_lawful cap ready.roomy) done.n done.words (plain_store_of slots' counts' tallies')
+          (ap (λ (x : Option Made). plain_outcome_of (answer_to x) slots' counts' tallies' []) (sym is_done) ∙ is)
 
       abbrev shape' : Shape
       shape' = left.made.shape
@@ -106,7 +111,7 @@ module _ {cap : Capacity} (ready : CapacityReady cap) {change : Change} {e n m :
 
       -- The part of the change, and what stands outside of it.
       within : PartMade m m' part slots slots' counts'
-      within = subst (λ (d : Made). MadeIn m slots d slots' counts') done confined
+      within = subst (λ (x : Option Made). MadeIn m slots x slots' counts') is_done confined
 
       size' : m' ≡ shape'.size
       size' = sym within.size ∙ size_is
@@ -130,7 +135,7 @@ module _ {cap : Capacity} (ready : CapacityReady cap) {change : Change} {e n m :
 
       -- With the third slice that the slots give it is the change of the timed sheet.
       pub timed_made : {balance' : List ℕ} → balance' ≡ balance_in m' (length balance) slots'
-          → timed_outcome_of (Changed after words) slots' counts' tallies' balance' [] ≡ outcome (ranked cap) (changing change e) tape store []
+          → timed_outcome_of (Ok (Changed done.n done.words)) slots' counts' tallies' balance' [] ≡ outcome (ranked cap) (changing change e) tape store []
       timed_made third =
           left.sliced_outcome _
           (third

@@ -1,5 +1,5 @@
 -- Clearing zeroes a timed store of the right lengths.
-use Rattle.std.specs.Prelude.{◌≡◌, true, ℕ, ◌-◌, take, drop, replicate}
+use Rattle.std.specs.Prelude.{Ok, ◌≡◌, true, ℕ, ◌-◌, take, drop, replicate}
 use Rattle.std.proofs.Common.{◌∙◌}
 use Rattle.std.proofs.Math.Path.{ap₂}
 use mathlib.Core.List.{List, [], ◌++◌}
@@ -19,10 +19,10 @@ module _ (cap : Capacity) (slots counts tallies balance : List ℕ) where
   pub clear_done : {slots' counts' tallies' balance' : List ℕ} → (timed_view cap).right_lengths (timed_store_of slots counts tallies balance) ≡ true
       → slots' ≡ take 0 slots ++ replicate (cap.slots - 0) 0 ++ drop cap.slots slots → counts' ≡ replicate cap.counts 0
       → tallies' ≡ replicate cap.counts 0 → balance' ≡ take 0 balance ++ replicate (cap.counts - 0) 0 ++ drop cap.counts balance
-      → timed_outcome_of Cleared slots' counts' tallies' balance' [] ≡ outcome (timed cap) clear [] (timed_store_of slots counts tallies balance) []
+      → timed_outcome_of (Ok Cleared) slots' counts' tallies' balance' [] ≡ outcome (timed cap) clear [] (timed_store_of slots counts tallies balance) []
   unfolding lay_balance write_balance
   clear_done right s k y z =
       let lengths = right_timed cap (timed_store_of slots counts tallies balance) right in
-      ap₂ (λ (sheet : PlainStore) (xs : List ℕ). record { answer = Cleared; store = record { sheet = sheet; slice = xs }; output = [] })
+      ap₂ (λ (sheet : PlainStore) (xs : List ℕ). record { answer = Ok Cleared; store = record { sheet = sheet; slice = xs }; output = [] })
       (clear_laid cap slots counts tallies (plain_right cap _ lengths.plain) s k y) (zeroed balance cap.counts lengths.balance z)
       ∙ clear_outcome (timed cap) (timed_store_of slots counts tallies balance) [] right

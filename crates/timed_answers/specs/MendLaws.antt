@@ -1,5 +1,5 @@
 -- What the code leaves of a timed store is what mending comes to.
-use Rattle.std.specs.Prelude.{◌≡◌, true, false, List, [], ℕ, length, get_or, take}
+use Rattle.std.specs.Prelude.{Ok, Err, ◌≡◌, true, false, List, [], ℕ, length, get_or, take}
 use Rattle.std.proofs.Math.Path.{sym, ap}
 use Rattle.std.proofs.Common.{ap₂, ◌∙◌, arith}
 use Rattle.tree_sizes.specs.Sizes as sizes
@@ -14,7 +14,7 @@ use Rattle.store_keys.specs.KeyLaws.{rises_true, true_rises}
 use Rattle.store_balance.specs.BalanceIn.{balance_in}
 use Rattle.store_balance.specs.BalanceInLaws.{balance_laid}
 use Rattle.call_outcomes.specs.declared.Cause.TheVariants.{Lengths, NotMendable}
-use Rattle.call_outcomes.specs.declared.Answer.TheVariants.{Mended, Refused}
+use Rattle.call_outcomes.specs.declared.Answer.TheVariants.{Mended}
 use Rattle.call_outcomes.specs.Outcome.{refused}
 use Rattle.call_outcomes.specs.Untallied.{store_of}
 use Rattle.call_outcomes.proofs.UntalliedLaws.{contents_of_lem}
@@ -34,18 +34,18 @@ module _ {cap : Capacity} (ready : CapacityReady cap) (slots counts tallies bala
   store = timed_store_of slots counts tallies balance
 
   pub mend_lengths : (timed_view cap).right_lengths store ≡ false
-      → timed_outcome_of (Refused Lengths) slots counts tallies balance [] ≡ mended (timed_view cap) (timed_store cap) store
+      → timed_outcome_of (Err Lengths) slots counts tallies balance [] ≡ mended (timed_view cap) (timed_store cap) store
   unfolding refused
   mend_lengths h = sym (mended_lengths ready.roomy (timed_view cap) (timed_store cap) (timed_lawful cap ready.roomy).view store h)
 
   module _ (right : (timed_view cap).right_lengths store ≡ true) where
     none_mended : (Mendable (timed_view cap) (timed_store cap) store → ⊥)
-        → timed_outcome_of (Refused NotMendable) slots counts tallies balance [] ≡ mended (timed_view cap) (timed_store cap) store
+        → timed_outcome_of (Err NotMendable) slots counts tallies balance [] ≡ mended (timed_view cap) (timed_store cap) store
     unfolding refused
     none_mended none = sym (mended_none ready.roomy (timed_view cap) (timed_store cap) (timed_lawful cap ready.roomy).view store right none)
 
     pub mend_none : NoSheet cap slots (get_or counts 0 0)
-        → timed_outcome_of (Refused NotMendable) slots counts tallies balance [] ≡ mended (timed_view cap) (timed_store cap) store
+        → timed_outcome_of (Err NotMendable) slots counts tallies balance [] ≡ mended (timed_view cap) (timed_store cap) store
     mend_none none = none_mended (λ m. no_kept ready slots counts none m.list m.shape m.is_list.plain m.is_shape m.same)
 
     module _ {fresh work : List ℕ} {n m : ℕ} (w : OpenedSheet cap (store_of slots fresh) n m work) where
@@ -61,7 +61,7 @@ module _ {cap : Capacity} (ready : CapacityReady cap) (slots counts tallies bala
 
       -- A list that does not rise.
       pub mend_fallen : rises (nonzero (take (sizes.slots m) slots)) ≡ false
-          → timed_outcome_of (Refused NotMendable) slots counts tallies balance [] ≡ mended (timed_view cap) (timed_store cap) store
+          → timed_outcome_of (Err NotMendable) slots counts tallies balance [] ≡ mended (timed_view cap) (timed_store cap) store
       mend_fallen fallen =
           none_mended
           (λ v.
@@ -85,7 +85,7 @@ module _ {cap : Capacity} (ready : CapacityReady cap) (slots counts tallies bala
             }
 
         pub mend_made : {counts' tallies' balance' : List ℕ} → counts' ≡ fresh → TalliesOf cap slots fresh tallies' → balance' ≡ balance_in m (length balance) slots
-            → timed_outcome_of (Mended n) slots counts' tallies' balance' [] ≡ mended (timed_view cap) (timed_store cap) store
+            → timed_outcome_of (Ok (Mended n)) slots counts' tallies' balance' [] ≡ mended (timed_view cap) (timed_store cap) store
         mend_made counts_are put written =
             let c = w.contents in
             let made = mended_made ready.roomy (timed_view cap) (timed_store cap) (timed_lawful cap ready.roomy).view store right found_mendable in
@@ -94,5 +94,5 @@ module _ {cap : Capacity} (ready : CapacityReady cap) (slots counts tallies bala
             ∙ ap (λ (k : ℕ). balance_in m k slots) number
             ∙ ap₂ (λ (k : ℕ) (xs : List ℕ). balance_in k cap.counts xs) (sym w.size) (opened.slots_are ready w)
             ∙ balance_laid cap ready.roomy c.list c.shape (opened.laid ready w).0 in
-            ap₂ (λ (t : PlainStore) (xs : List ℕ). record { answer = Mended n; store = record { sheet = t; slice = xs }; output = [] }) (put_laid ready w counts_are put) third
+            ap₂ (λ (t : PlainStore) (xs : List ℕ). record { answer = Ok (Mended n); store = record { sheet = t; slice = xs }; output = [] }) (put_laid ready w counts_are put) third
             ∙ sym (rw w.count at made)

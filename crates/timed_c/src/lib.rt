@@ -26,7 +26,7 @@ pub extern "C" fn timed_clear(
         return 255;
     }
     call_handed::hand(
-        timed_calls::clear(slots, counts, tallies, balance).returned(),
+        timed_calls::clear(slots, counts, tallies, balance).into(),
         2,
         answer,
     )
@@ -50,7 +50,7 @@ pub extern "C" fn timed_insert(
         return 255;
     }
     call_handed::hand(
-        timed_calls::insert(slots, counts, tallies, balance, entry, tape).returned(),
+        timed_calls::insert(slots, counts, tallies, balance, entry, tape).into(),
         2,
         answer,
     )
@@ -74,7 +74,7 @@ pub extern "C" fn timed_delete(
         return 255;
     }
     call_handed::hand(
-        timed_calls::delete(slots, counts, tallies, balance, rank, tape).returned(),
+        timed_calls::delete(slots, counts, tallies, balance, rank, tape).into(),
         2,
         answer,
     )
@@ -97,7 +97,7 @@ pub extern "C" fn timed_find(
         return 255;
     }
     call_handed::hand(
-        timed_calls::find(slots, counts, tallies, balance, entry).returned(),
+        timed_calls::find(slots, counts, tallies, balance, entry).into(),
         2,
         answer,
     )
@@ -122,7 +122,7 @@ pub extern "C" fn timed_read(
         return 255;
     }
     call_handed::hand(
-        timed_calls::read(slots, counts, tallies, balance, first, last, output).returned(),
+        timed_calls::read(slots, counts, tallies, balance, first, last, output).into(),
         2,
         answer,
     )
@@ -145,7 +145,7 @@ pub extern "C" fn timed_place(
         return 255;
     }
     call_handed::hand(
-        timed_calls::place(slots, counts, tallies, balance, rank).returned(),
+        timed_calls::place(slots, counts, tallies, balance, rank).into(),
         3,
         answer,
     )
@@ -167,7 +167,7 @@ pub extern "C" fn timed_check(
         return 255;
     }
     call_handed::hand(
-        timed_calls::check(slots, counts, tallies, balance).returned(),
+        timed_calls::check(slots, counts, tallies, balance).into(),
         2,
         answer,
     )
@@ -191,7 +191,7 @@ pub extern "C" fn timed_board(
         return 255;
     }
     call_handed::hand(
-        timed_calls::board(slots, counts, tallies, balance, ranks, output).returned(),
+        timed_calls::board(slots, counts, tallies, balance, ranks, output).into(),
         2,
         answer,
     )
@@ -214,7 +214,7 @@ pub extern "C" fn timed_mend(
         return 255;
     }
     call_handed::hand(
-        timed_mend::mend(slots, counts, tallies, balance).returned(),
+        timed_mend::mend(slots, counts, tallies, balance).into(),
         2,
         answer,
     )

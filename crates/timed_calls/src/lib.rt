@@ -8,7 +8,6 @@ ghost use Rattle.call_outcomes.specs.Clubs.{clubs};
 ghost use Rattle.call_timed.specs.Timed as call;
 ghost use Rattle.call_timed.specs.Timed.{timed, timed_store_of, timed_outcome_of};
 
-use call_open::Opened;
 use call_outcomes::{Answer, Cause};
 use tree_rules::Change;
 use tree_sizes::Size;
@@ -19,20 +18,20 @@ pub fn clear(
     counts: &mut [u16],
     tallies: &mut [u16],
     balance: &mut [u64],
-) -> Answer
+) -> Result<Answer, Cause>
     ensures { timed_outcome_of result slots.new counts.new tallies.new balance.new []
         ≡ outcome (timed clubs) clear [] (timed_store_of slots.old counts.old tallies.old balance.old) [] }
 {
     let cap = sheet_clubs::capacity();
     if !timed_open::right_lengths(cap, slots.len(), counts.len(), tallies.len(), balance.len()) {
-        return Answer::Refused(Cause::Lengths);
+        return Err(Cause::Lengths);
     }
     let zeros = [0u32; 256];
     store_slices::zero_slots(slots, 0, 4224);
     store_widths::narrow(&zeros, counts);
     store_widths::narrow(&zeros, tallies);
     store_slices::zero_slots(balance, 0, 256);
-    Answer::Cleared
+    Ok(Answer::Cleared)
 }
 
 // Puts the entry in at the rank of its key.
@@ -43,25 +42,23 @@ pub fn insert(
     balance: &mut [u64],
     entry: u64,
     tape: &[u32],
-) -> Answer
+) -> Result<Answer, Cause>
     ensures { timed_outcome_of result slots.new counts.new tallies.new balance.new []
         ≡ outcome (timed clubs) (call.insert entry) tape.now (timed_store_of slots.old counts.old tallies.old balance.old) [] }
 {
     let mut counts32 = [0u32; 256];
     let mut work = [0u32; 256];
-    match timed_clubs::open(slots, counts, tallies, balance, &mut counts32, &mut work) {
-        Opened::Sheet { n, m } => {
-            if store_keys::key(entry) == 0 {
-                return Answer::Refused(Cause::EntryZero);
+    let sheet = timed_clubs::open(slots, counts, tallies, balance, &mut counts32, &mut work)?;
+    if store_keys::key(entry) == 0 {
+        return Err(Cause::EntryZero);
+    }
+    match store_search::search(Size { m: sheet.m }, slots, &work, balance, entry) {
+        Ok(_) => Err(Cause::EntryPresent),
+        Err(rank) => {
+            if 1024 <= sheet.n {
+                return Err(Cause::Full);
             }
-            let sought = store_search::search(Size { m: m }, slots, &work, balance, entry);
-            if sought.present {
-                return Answer::Refused(Cause::EntryPresent);
-            }
-            if 1024 <= n {
-                return Answer::Refused(Cause::Full);
-            }
-            let change = Change::Insert(sought.rank);
+            let change = Change::Insert(rank);
             timed_clubs::change(
                 slots,
                 counts,
@@ -69,14 +66,12 @@ pub fn insert(
                 balance,
                 &mut counts32,
                 &mut work,
-                n,
-                m,
+                sheet,
                 change,
                 entry,
                 tape,
             )
         }
-        Opened::Refused(cause) => Answer::Refused(cause),
     }
 }
 
@@ -88,52 +83,48 @@ pub fn delete(
     balance: &mut [u64],
     rank: usize,
     tape: &[u32],
-) -> Answer
+) -> Result<Answer, Cause>
     ensures { timed_outcome_of result slots.new counts.new tallies.new balance.new []
         ≡ outcome (timed clubs) (call.delete rank) tape.now (timed_store_of slots.old counts.old tallies.old balance.old) [] }
 {
     let mut counts32 = [0u32; 256];
     let mut work = [0u32; 256];
     let opened = timed_clubs::open(slots, counts, tallies, balance, &mut counts32, &mut work);
-    match call_open::admit_rank(opened, rank) {
-        Opened::Sheet { n, m } => {
-            let change = Change::Delete(rank);
-            timed_clubs::change(
-                slots,
-                counts,
-                tallies,
-                balance,
-                &mut counts32,
-                &mut work,
-                n,
-                m,
-                change,
-                0,
-                tape,
-            )
-        }
-        Opened::Refused(cause) => Answer::Refused(cause),
-    }
+    let sheet = call_open::admit_rank(opened, rank)?;
+    let change = Change::Delete(rank);
+    timed_clubs::change(
+        slots,
+        counts,
+        tallies,
+        balance,
+        &mut counts32,
+        &mut work,
+        sheet,
+        change,
+        0,
+        tape,
+    )
 }
 
 // The rank of the entry, or that it is not there and the rank at which it would stand.
-pub fn find(slots: &[u64], counts: &[u16], tallies: &[u16], balance: &[u64], entry: u64) -> Answer
+pub fn find(
+    slots: &[u64],
+    counts: &[u16],
+    tallies: &[u16],
+    balance: &[u64],
+    entry: u64,
+) -> Result<Answer, Cause>
     ensures { timed_outcome_of result slots.now counts.now tallies.now balance.now []
         ≡ outcome (timed clubs) (call.find entry) [] (timed_store_of slots.now counts.now tallies.now balance.now) [] }
 {
     let mut work = [0u32; 256];
-    match timed_clubs::examine(slots, counts, tallies, balance, &mut work) {
-        Opened::Sheet { n: _, m } => {
-            if store_keys::key(entry) == 0 {
-                return Answer::Refused(Cause::EntryZero);
-            }
-            let sought = store_search::search(Size { m: m }, slots, &work, balance, entry);
-            if sought.present {
-                return Answer::Present { rank: sought.rank };
-            }
-            Answer::Absent { rank: sought.rank }
-        }
-        Opened::Refused(cause) => Answer::Refused(cause),
+    let sheet = timed_clubs::examine(slots, counts, tallies, balance, &mut work)?;
+    if store_keys::key(entry) == 0 {
+        return Err(Cause::EntryZero);
+    }
+    match store_search::search(Size { m: sheet.m }, slots, &work, balance, entry) {
+        Ok(rank) => Ok(Answer::Present { rank: rank }),
+        Err(rank) => Ok(Answer::Absent { rank: rank }),
     }
 }
 
@@ -146,7 +137,7 @@ pub fn read(
     first: usize,
     last: usize,
     output: &mut [u64],
-) -> Answer
+) -> Result<Answer, Cause>
     ensures { timed_outcome_of result slots.now counts.now tallies.now balance.now output.new
         ≡ outcome (timed clubs) (call.read first last (length output.old)) []
         (timed_store_of slots.now counts.now tallies.now balance.now) output.old }
@@ -157,7 +148,13 @@ pub fn read(
 }
 
 // The place of the entry at the rank: that of her tied group, the sum of its places and the number of its boats; a retired boat has none.
-pub fn place(slots: &[u64], counts: &[u16], tallies: &[u16], balance: &[u64], rank: usize) -> Answer
+pub fn place(
+    slots: &[u64],
+    counts: &[u16],
+    tallies: &[u16],
+    balance: &[u64],
+    rank: usize,
+) -> Result<Answer, Cause>
     ensures { timed_outcome_of result slots.now counts.now tallies.now balance.now []
         ≡ outcome (timed clubs) (call.place rank) [] (timed_store_of slots.now counts.now tallies.now balance.now) [] }
 {
@@ -175,7 +172,12 @@ pub fn place(slots: &[u64], counts: &[u16], tallies: &[u16], balance: &[u64], ra
 }
 
 // The number of entries of a sheet.
-pub fn check(slots: &[u64], counts: &[u16], tallies: &[u16], balance: &[u64]) -> Answer
+pub fn check(
+    slots: &[u64],
+    counts: &[u16],
+    tallies: &[u16],
+    balance: &[u64],
+) -> Result<Answer, Cause>
     ensures { timed_outcome_of result slots.now counts.now tallies.now balance.now []
         ≡ outcome (timed clubs) call.check [] (timed_store_of slots.now counts.now tallies.now balance.now) [] }
 {
@@ -192,7 +194,7 @@ pub fn board(
     balance: &[u64],
     ranks: &[u64],
     output: &mut [u64],
-) -> Answer
+) -> Result<Answer, Cause>
     ensures { timed_outcome_of result slots.now counts.now tallies.now balance.now output.new
         ≡ outcome (timed clubs) (call.board ranks.now (length output.old)) []
         (timed_store_of slots.now counts.now tallies.now balance.now) output.old }

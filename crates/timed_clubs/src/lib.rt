@@ -13,7 +13,6 @@ ghost use Rattle.timed_answers.specs.RankedReady.{RankedReady};
 
 use call_open::Opened;
 use call_outcomes::{Answer, Cause};
-use sheet_change::Made;
 use tree_rules::Change;
 use tree_sizes::Size;
 
@@ -26,7 +25,7 @@ pub fn open(
     balance: &[u64],
     counts32: &mut [u32],
     work: &mut [u32],
-) -> Opened
+) -> Result<Opened, Cause>
     requires counts32 { length counts32.old ≡ 256 }
     requires work { length work.old ≡ 256 }
     ensures { Opening (timed_view clubs) timed_numbers
@@ -34,7 +33,7 @@ pub fn open(
         × Widened result counts.now counts32.new }
 {
     if balance.len() != 256 {
-        return Opened::Refused(Cause::Lengths);
+        return Err(Cause::Lengths);
     }
     let opened = sheet_clubs::open(slots, counts, tallies, counts32, work);
     let mut right = [0u64; 256];
@@ -48,7 +47,7 @@ pub fn examine(
     tallies: &[u16],
     balance: &[u64],
     work: &mut [u32],
-) -> Opened
+) -> Result<Opened, Cause>
     requires { length work.old ≡ 256 }
     ensures { Opening (timed_view clubs) timed_numbers
         (timed_store_of slots.now counts.now tallies.now balance.now) result work.new }
@@ -65,14 +64,14 @@ pub fn examine_numbers(
     balance: &[u64],
     work: &mut [u32],
     numbers: &mut [u32],
-) -> Opened
+) -> Result<Opened, Cause>
     requires work { length work.old ≡ 256 }
     requires numbers { length numbers.old ≡ 256 }
     ensures { TimedOpening clubs (timed_store_of slots.now counts.now tallies.now balance.now) result
         work.new numbers.new }
 {
     if balance.len() != 256 {
-        return Opened::Refused(Cause::Lengths);
+        return Err(Cause::Lengths);
     }
     let opened = sheet_clubs::examine_numbers(slots, counts, tallies, work, numbers);
     let mut right = [0u64; 256];
@@ -88,33 +87,24 @@ pub fn change(
     balance: &mut [u64],
     counts32: &mut [u32],
     work: &mut [u32],
-    n: usize,
-    m: usize,
+    sheet: Opened,
     change: Change,
     entry: u64,
     tape: &[u32],
-) -> Answer
-    requires sheet { RankedReady clubs change entry n m (timed_store_of slots.old counts.old tallies.old balance.old) work.old }
+) -> Result<Answer, Cause>
+    requires sheet { RankedReady clubs change entry sheet.n sheet.m (timed_store_of slots.old counts.old tallies.old balance.old) work.old }
     requires same { counts32.old ≡ counts.old }
     ensures { timed_outcome_of result slots.new counts.new tallies.new balance.new []
         ≡ outcome (ranked clubs) (changing change entry) tape.now
         (timed_store_of slots.old counts.old tallies.old balance.old) [] }
 {
-    match sheet_clubs_change::make(
-        slots, counts, tallies, counts32, work, n, m, change, entry, tape,
-    ) {
-        Made::Done {
-            n: after,
-            words,
-            m: size,
-            part,
-        } => {
-            store_balance_part::write_part(Size { m: size }, part, slots, balance);
-            Answer::Changed {
-                n: after,
-                words: words,
-            }
-        }
-        Made::Ended => Answer::Refused(Cause::TapeEnded),
-    }
+    let made = sheet_clubs_change::make(
+        slots, counts, tallies, counts32, work, sheet, change, entry, tape,
+    )
+    .ok_or(Cause::TapeEnded)?;
+    store_balance_part::write_part(Size { m: made.m }, made.part, slots, balance);
+    Ok(Answer::Changed {
+        n: made.n,
+        words: made.words,
+    })
 }

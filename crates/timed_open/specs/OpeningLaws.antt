@@ -1,5 +1,5 @@
 -- The look at a timed store, by that at the plain store in it and by the test of its order and its third slice.
-use Rattle.std.specs.Prelude.{◌≡◌, Bool, ◌&&◌, List, ℕ, length}
+use Rattle.std.specs.Prelude.{Result, Ok, Err, ◌≡◌, Bool, ◌&&◌, List, ℕ, length}
 use Rattle.std.proofs.Math.Path.{refl}
 use Rattle.std.proofs.Common.{sym, ◌∙◌, ap, ap₂, arith}
 use Rattle.std.proofs.Math.Bool.{true, false}
@@ -13,8 +13,8 @@ use Rattle.store_balance.specs.BalanceInLaws.{balance_laid}
 use Rattle.call_outcomes.specs.Untallied.{store_of}
 use Rattle.call_outcomes.specs.Slice.{slice_test}
 use Rattle.call_outcomes.specs.Plain.{plain_view, plain_store_of}
+use Rattle.call_outcomes.specs.declared.Cause.{Cause}
 use Rattle.call_open.specs.declared.Opened.{Opened}
-use Rattle.call_open.specs.declared.Opened.TheVariants as opened
 use Rattle.call_open.specs.Opening.{plain_numbers, Opening, OpenedSheet, OpenedStore}
 use Rattle.call_open.specs.OpenedLaws as opening
 use Rattle.call_open.specs.AdmittedLaws.{opened_store, plain_sheet}
@@ -36,53 +36,53 @@ test_is {cap} ready {sl} {m = m} w balance number =
     ap₂ (λ (xs ys : List ℕ). rises xs && equal_lists balance ys) (opening.front_entries ready w) words
 
 -- A sheet that was found was found before.
-found_by_lem : (b : Bool) {k j n m : ℕ} → timed_by b k j ≡ opened.Sheet n m → opened.Sheet k j ≡ opened.Sheet n m
+found_by_lem : (b : Bool) {before sheet : Opened} → timed_by b before ≡ Ok sheet → ◌≡◌ {A = Result Opened Cause} (Ok before) (Ok sheet)
 unfolding timed_by
 found_by_lem true h = h
 found_by_lem false h = let z : ◌≡◌ {A = ℕ} 0 1 = cc in absurd (omega arith)
 
-timed_found : (found : Opened) (slots balance : List ℕ) {n m : ℕ} → timed_look found slots balance ≡ opened.Sheet n m → found ≡ opened.Sheet n m
+timed_found : (found : Result Opened Cause) (slots balance : List ℕ) {sheet : Opened} → timed_look found slots balance ≡ Ok sheet → found ≡ Ok sheet
 unfolding timed_look
-timed_found (opened.Refused cause) slots balance e = let z : ◌≡◌ {A = ℕ} 0 1 = cc in absurd (omega arith)
-timed_found (opened.Sheet k j) slots balance e = found_by_lem (timed_test j slots balance) e
+timed_found (Err cause) slots balance e = let z : ◌≡◌ {A = ℕ} 0 1 = cc in absurd (omega arith)
+timed_found (Ok before) slots balance e = found_by_lem (timed_test before.m slots balance) e
 
-pub found_timed : {found after : Opened} (slots balance : List ℕ) → after ≡ timed_look found slots balance → {n m : ℕ} → after ≡ opened.Sheet n m
-    → found ≡ opened.Sheet n m
+pub found_timed : {found after : Result Opened Cause} (slots balance : List ℕ) → after ≡ timed_look found slots balance → {sheet : Opened} → after ≡ Ok sheet
+    → found ≡ Ok sheet
 found_timed {found} slots balance is e = timed_found found slots balance (sym is ∙ e)
 
-module _ {cap : Capacity} (ready : CapacityReady cap) {slots counts tallies work : List ℕ} (balance : List ℕ) (number : length balance ≡ cap.counts) {found : Opened}
+module _ {cap : Capacity} (ready : CapacityReady cap) {slots counts tallies work : List ℕ} (balance : List ℕ) (number : length balance ≡ cap.counts) {found : Result Opened Cause}
     (w : Opening (plain_view cap) plain_numbers (plain_store_of slots counts tallies) found work) where
   abbrev store : TimedStore
   store = timed_store_of slots counts tallies balance
 
-  sheet : (n m : ℕ) → found ≡ opened.Sheet n m → OpenedStore (plain_view cap) plain_numbers (plain_store_of slots counts tallies) n m work
-  sheet = opened_store (plain_view cap) plain_numbers _ w
+  plain : (sheet : Opened) → found ≡ Ok sheet → OpenedStore (plain_view cap) plain_numbers (plain_store_of slots counts tallies) sheet.n sheet.m work
+  plain = opened_store (plain_view cap) plain_numbers _ w
 
   pub look_ready : LookReady found slots balance
   look_ready = record {
-    most = λ n m e. omega (arith, opening.size_small ready (plain_sheet (sheet n m e)));
-    slots_room = λ n m e. opening.slots_room ready (plain_sheet (sheet n m e));
-    levels_room = λ n m e. omega (arith, number, opening.levels_room ready (plain_sheet (sheet n m e)));
+    most = λ sheet e. omega (arith, opening.size_small ready (plain_sheet (plain sheet e)));
+    slots_room = λ sheet e. opening.slots_room ready (plain_sheet (plain sheet e));
+    levels_room = λ sheet e. omega (arith, number, opening.levels_room ready (plain_sheet (plain sheet e)));
   }
 
-  by_test : {n m : ℕ} → found ≡ opened.Sheet n m → (b : Bool) → timed_test m slots balance ≡ b → Opening (timed_view cap) timed_numbers store (timed_by b n m) work
+  by_test : {sheet : Opened} → found ≡ Ok sheet → (b : Bool) → timed_test sheet.m slots balance ≡ b → Opening (timed_view cap) timed_numbers store (timed_by b sheet) work
   unfolding timed_by
-  by_test {n} {m} e true t =
-      look_sheet (plain_view cap) (balance_slice cap) plain_numbers store work number (sheet n m e) (sym (test_is ready (plain_sheet (sheet n m e)) balance number) ∙ t)
-  by_test {n} {m} e false t =
-      look_not (plain_view cap) (balance_slice cap) plain_numbers store work number (sheet n m e) (sym (test_is ready (plain_sheet (sheet n m e)) balance number) ∙ t)
+  by_test {sheet} e true t =
+      look_sheet (plain_view cap) (balance_slice cap) plain_numbers store work number (plain sheet e) (sym (test_is ready (plain_sheet (plain sheet e)) balance number) ∙ t)
+  by_test {sheet} e false t =
+      look_not (plain_view cap) (balance_slice cap) plain_numbers store work number (plain sheet e) (sym (test_is ready (plain_sheet (plain sheet e)) balance number) ∙ t)
 
-  looks : (o : Opened) → found ≡ o → Opening (timed_view cap) timed_numbers store (timed_look o slots balance) work
+  looks : (o : Result Opened Cause) → found ≡ o → Opening (timed_view cap) timed_numbers store (timed_look o slots balance) work
   unfolding timed_look
-  looks (opened.Sheet n m) e = by_test e (timed_test m slots balance) refl
-  looks (opened.Refused cause) e = look_refused (plain_view cap) (balance_slice cap) plain_numbers store work number w e
+  looks (Ok sheet) e = by_test e (timed_test sheet.m slots balance) refl
+  looks (Err cause) e = look_refused (plain_view cap) (balance_slice cap) plain_numbers store work number w e
 
-  pub timed_opening : {answer : Opened} → answer ≡ timed_look found slots balance → Opening (timed_view cap) timed_numbers store answer work
+  pub timed_opening : {answer : Result Opened Cause} → answer ≡ timed_look found slots balance → Opening (timed_view cap) timed_numbers store answer work
   timed_opening is = rw is (looks found refl)
 
 -- The tallies by range number too.
 pub timed_tallied : {cap : Capacity} → CapacityReady cap → {slots counts tallies work numbers : List ℕ} (balance : List ℕ) → length balance ≡ cap.counts
-    → {found answer : Opened} → PlainOpening cap (plain_store_of slots counts tallies) found work numbers → answer ≡ timed_look found slots balance
+    → {found answer : Result Opened Cause} → PlainOpening cap (plain_store_of slots counts tallies) found work numbers → answer ≡ timed_look found slots balance
     → TimedOpening cap (timed_store_of slots counts tallies balance) answer work numbers
 timed_tallied ready {slots} balance number w is = record {
   opening = timed_opening ready balance number w.opening is;

@@ -41,18 +41,19 @@ fn is_timed(size: Size, slots: &[u64], balance: &[u64], right: &mut [u64]) -> bo
 }
 
 // What is left of the look at the plain store in a timed one, unless cause 11 decides.
-pub fn admit_timed(opened: Opened, slots: &[u64], balance: &[u64], right: &mut [u64]) -> Opened
+pub fn admit_timed(
+    opened: Result<Opened, Cause>,
+    slots: &[u64],
+    balance: &[u64],
+    right: &mut [u64],
+) -> Result<Opened, Cause>
     requires ready { LookReady opened slots.now balance.now }
     requires right { length right.old ≡ length balance.now }
     ensures { result ≡ timed_look opened slots.now balance.now }
 {
-    match opened {
-        Opened::Sheet { n, m } => {
-            if !is_timed(Size { m: m }, slots, balance, right) {
-                return Opened::Refused(Cause::NotTimed);
-            }
-            Opened::Sheet { n: n, m: m }
-        }
-        Opened::Refused(cause) => Opened::Refused(cause),
+    let sheet = opened?;
+    if !is_timed(Size { m: sheet.m }, slots, balance, right) {
+        return Err(Cause::NotTimed);
     }
+    Ok(sheet)
 }

@@ -1,13 +1,11 @@
 -- Laws of the rebuilding of a range, in the values that the code has: c candidates, the first at w, the balance entry b.
-use Rattle.std.specs.Prelude.{◌≡◌, ◌≢◌, List, [], ◌∷◌, ◌++◌, ℕ, zero, suc, ◌+◌, ◌-◌, ◌*◌, ◌^◌, ◌≤◌, ◌<◌, length, set, take, replicate}
+use Rattle.std.specs.Prelude.{◌≡◌, ◌≢◌, List, ℕ, zero, suc, ◌+◌, ◌-◌, ◌*◌, ◌^◌, ◌≤◌, ◌<◌, set, Option, Some, None}
 use Rattle.std.proofs.Math.Path.{refl}
-use Rattle.std.proofs.Common.{ap, sym, ◌∙◌, subst, ⊎_elim, arith, mul-le-mul_left, pow_pos, take_all, take-suc-set}
+use Rattle.std.proofs.Common.{sym, ◌∙◌, subst, ⊎_elim, arith, mul-le-mul_left, pow_pos}
 use Rattle.std.proofs.Math.Numerals.{add-one}
 use Rattle.std.proofs.Math.Nat.{pow-succ'}
-use Rattle.std.proofs.lemmas.List.{replicate-append-replicate}
 use Rattle.base.specs.CaseLaws.{le_or_gt}
-use Rattle.draw.specs.declared.Drawn.TheVariants.{Face, Ended as DrawEnded}
-use Rattle.draw.specs.Draw.{draw_at}
+use Rattle.draw.specs.Draw.{face_at, draw_at}
 use Rattle.draw.specs.DrawLaws.{draw_sound}
 use Rattle.draw_shares.specs.Program.{draw}
 use Rattle.draw_shares.specs.Tape.{Ran, ran, ended, run_at, after_run}
@@ -17,8 +15,6 @@ use Rattle.tree_sizes.proofs.SizeLaws.{height_small, height_most, candidates_hal
 use Rattle.tree_sizes.proofs.Fit.{fits_count, fits_halves}
 use Rattle.tree_rules.specs.Tree.{Tree, node}
 use Rattle.tree_rules.specs.Rules.{rebuild, rebuild_halves, join}
-use Rattle.tree_counts.specs.declared.Rebuilt.{Rebuilt}
-use Rattle.tree_counts.specs.declared.Rebuilt.TheVariants.{Done, Ended}
 use Rattle.tree_counts.specs.Counts.{write_tree}
 use Rattle.tree_counts.specs.Rebuild.{RebuildReady, RebuiltAs}
 
@@ -94,7 +90,7 @@ half_count M d e h = h ∙ rw (e, add-one d) (sym (candidates_half M d))
 pub record Chosen (M d n : ℕ) (tape : List ℕ) (at c w face next : ℕ) : Type 0 where
   pub count_is : c ≡ candidates M d
   pub start_is : w ≡ window_start n c
-  pub face_is : draw_at c tape at ≡ Face face next
+  pub face_is : draw_at c tape at ≡ face_at face next
 
 pub chosen_candidate : {M d n : ℕ} {tape : List ℕ} {at c w face next : ℕ} → Chosen M d n tape at c w face next
     → IsCandidate n (candidates M d) (w + face)
@@ -119,24 +115,24 @@ run_node M (suc levels) d n tape at above = let e : suc levels - 1 ≡ levels = 
 
 -- ---- what the code leaves
 
-not_both : (answer : Rebuilt) (next : ℕ) → answer ≡ Done next → answer ≡ Ended → ⊥
+not_both : (answer : Option ℕ) (next : ℕ) → answer ≡ Some next → answer ≡ None → ⊥
 not_both answer next p q = let z : ◌≡◌ {A = ℕ} 0 1 = cc in omega arith
 
-ended_first : (left : Ran Tree) (then : Tree → ℕ → Ran Tree) (answer : Rebuilt) (k j n b : ℕ) (c₀ c₁ c₂ c₃ : List ℕ)
-    → RebuiltAs left answer j b c₀ c₁ → answer ≡ Ended → RebuiltAs (after_run left then) Ended k n c₂ c₃
+ended_first : (left : Ran Tree) (then : Tree → ℕ → Ran Tree) (answer : Option ℕ) (k j n b : ℕ) (c₀ c₁ c₂ c₃ : List ℕ)
+    → RebuiltAs left answer j b c₀ c₁ → answer ≡ None → RebuiltAs (after_run left then) None k n c₂ c₃
 unfolding RebuiltAs after_run
 ended_first (ran l mid) then answer k j n b c₀ c₁ c₂ c₃ h e = absurd (not_both answer mid h.0 e)
 ended_first ended then answer k j n b c₀ c₁ c₂ c₃ h e = refl
 
-second : (right : Ran Tree) (l : Tree) (answer : Rebuilt) (k n b : ℕ) (counts c₁ c₂ : List ℕ)
+second : (right : Ran Tree) (l : Tree) (answer : Option ℕ) (k n b : ℕ) (counts c₁ c₂ : List ℕ)
     → c₁ ≡ write_tree (set counts k n) (2 * k) b l → RebuiltAs right answer (2 * k + 1) (n - b) c₁ c₂
     → RebuiltAs (after_run right (λ r next. ran (node b l r) next)) answer k n counts c₂
 unfolding RebuiltAs after_run write_tree
 second (ran r next) l answer k n b counts c₁ c₂ e h = (h.0, h.1 ∙ rw e refl)
 second ended l answer k n b counts c₁ c₂ e h = h
 
-both : (left : Ran Tree) (right : ℕ → Ran Tree) (answer₁ answer₂ : Rebuilt) (k n b mid : ℕ) (counts c₁ c₂ : List ℕ)
-    → RebuiltAs left answer₁ (2 * k) b (set counts k n) c₁ → answer₁ ≡ Done mid
+both : (left : Ran Tree) (right : ℕ → Ran Tree) (answer₁ answer₂ : Option ℕ) (k n b mid : ℕ) (counts c₁ c₂ : List ℕ)
+    → RebuiltAs left answer₁ (2 * k) b (set counts k n) c₁ → answer₁ ≡ Some mid
     → RebuiltAs (right mid) answer₂ (2 * k + 1) (n - b) c₁ c₂
     → RebuiltAs (after_run left (λ l i. after_run (right i) (λ r next. ran (node b l r) next))) answer₂ k n counts c₂
 unfolding RebuiltAs after_run
@@ -146,15 +142,15 @@ both (ran l i) right answer₁ answer₂ k n b mid counts c₁ c₂ h e h' =
     (subst (λ (j : ℕ). RebuiltAs (right j) answer₂ (2 * k + 1) (n - b) c₁ c₂) same h')
 both ended right answer₁ answer₂ k n b mid counts c₁ c₂ h e h' = absurd (not_both answer₁ mid e h)
 
-module _ (M levels d k n b : ℕ) (tape : List ℕ) (at : ℕ) (counts : List ℕ) (answer : Rebuilt) where
+module _ (M levels d k n b : ℕ) (tape : List ℕ) (at : ℕ) (counts : List ℕ) (answer : Option ℕ) where
   pub halves_ended : (c₁ c₂ : List ℕ) → RebuiltAs (run_at (rebuild M levels (d + 1) b) tape at) answer (2 * k) b (set counts k n) c₁
-      → answer ≡ Ended → RebuiltAs (run_at (rebuild_halves M levels d n b) tape at) Ended k n counts c₂
+      → answer ≡ None → RebuiltAs (run_at (rebuild_halves M levels d n b) tape at) None k n counts c₂
   halves_ended c₁ c₂ h e =
       rw (run_halves M levels d n b tape at)
       (ended_first (run_at (rebuild M levels (d + 1) b) tape at) _ answer k (2 * k) n b (set counts k n) c₁ counts c₂ h e)
 
-  pub halves_done : (answer₂ : Rebuilt) (mid : ℕ) (c₁ c₂ : List ℕ)
-      → RebuiltAs (run_at (rebuild M levels (d + 1) b) tape at) answer (2 * k) b (set counts k n) c₁ → answer ≡ Done mid
+  pub halves_done : (answer₂ : Option ℕ) (mid : ℕ) (c₁ c₂ : List ℕ)
+      → RebuiltAs (run_at (rebuild M levels (d + 1) b) tape at) answer (2 * k) b (set counts k n) c₁ → answer ≡ Some mid
       → RebuiltAs (run_at (rebuild M levels (d + 1) (n - b)) tape mid) answer₂ (2 * k + 1) (n - b) c₁ c₂
       → RebuiltAs (run_at (rebuild_halves M levels d n b) tape at) answer₂ k n counts c₂
   halves_done answer₂ mid c₁ c₂ h e h' =
@@ -164,7 +160,7 @@ module _ (M levels d k n b : ℕ) (tape : List ℕ) (at : ℕ) (counts : List �
 
 module _ (M levels d n : ℕ) (tape : List ℕ) (at : ℕ) where
   pub leaf_done : (k : ℕ) (counts : List ℕ) → levels ≡ 0
-      → RebuiltAs (run_at (rebuild M levels d n) tape at) (Done at) k n counts (set counts k n)
+      → RebuiltAs (run_at (rebuild M levels d n) tape at) (Some at) k n counts (set counts k n)
   unfolding rebuild run_at RebuiltAs write_tree
   leaf_done k counts e = rw e (refl, refl)
 
@@ -176,30 +172,16 @@ module _ (M levels d n : ℕ) (tape : List ℕ) (at : ℕ) where
         ∙ run_face (candidates M d) _ tape at face next (rw s.count_is at s.face_is)
         ∙ rw (s.start_is, s.count_is)
 
-    pub draw_ended : (c k : ℕ) (counts c₁ : List ℕ) → c ≡ candidates M d → draw_at c tape at ≡ DrawEnded
-        → RebuiltAs (run_at (rebuild M levels d n) tape at) Ended k n counts c₁
+    pub draw_ended : (c k : ℕ) (counts c₁ : List ℕ) → c ≡ candidates M d → draw_at c tape at ≡ None
+        → RebuiltAs (run_at (rebuild M levels d n) tape at) None k n counts c₁
     unfolding RebuiltAs
     draw_ended c k counts c₁ ec e =
         rw (run_node M levels d n tape at above, run_ended (candidates M d) _ tape at (rw ec at e)) refl
 
 -- Halves that are leaves.
 pub halves_leaves : (M levels d k n b : ℕ) (tape : List ℕ) (at : ℕ) (counts : List ℕ) → levels ≡ 0
-    → RebuiltAs (run_at (rebuild_halves M levels d n b) tape at) (Done at) k n counts (set (set (set counts k n) (2 * k) b) (2 * k + 1) (n - b))
+    → RebuiltAs (run_at (rebuild_halves M levels d n b) tape at) (Some at) k n counts (set (set (set counts k n) (2 * k) b) (2 * k + 1) (n - b))
 halves_leaves M levels d k n b tape at counts e =
-    halves_done M levels d k n b tape at counts (Done at) (Done at) at _ _
+    halves_done M levels d k n b tape at counts (Some at) (Some at) at _ _
     (leaf_done M levels (d + 1) b tape at (2 * k) (set counts k n) e) refl
     (leaf_done M levels (d + 1) (n - b) tape at (2 * k + 1) (set (set counts k n) (2 * k) b) e)
-
--- ---- all counts zero
-
-pub zero_more : (counts : List ℕ) (i : ℕ) → i < length counts → take i counts ≡ replicate i 0
-    → take (i + 1) (set counts i 0) ≡ replicate (i + 1) 0
-zero_more counts i h e =
-    ap (λ (j : ℕ). take j (set counts i 0)) (add-one i)
-    ∙ take-suc-set counts i 0 h
-    ∙ ap (λ (c : List ℕ). c ++ (0 ∷ [])) e
-    ∙ replicate-append-replicate i 1 0
-
-pub zero_all : (counts : List ℕ) (i room : ℕ) → length counts ≡ room → i ≡ room → take i counts ≡ replicate i 0
-    → counts ≡ replicate room 0
-zero_all counts i room el ei e = sym (take_all i counts (omega arith)) ∙ e ∙ ap (λ (j : ℕ). replicate j 0) ei

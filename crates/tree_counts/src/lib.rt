@@ -1,15 +1,13 @@
 // The counts of a tree of balance ranks, and a range of it rebuilt; a change of its entries, and the part that the change is confined to.
 #![tactic(auto)]
 
-ghost use Rattle.std.specs.Prelude.{◌≡◌, ◌≢◌, suc, ◌^◌, ◌<◌, length, set, replicate};
+ghost use Rattle.std.specs.Prelude.{◌≡◌, ◌≢◌, ◌-◌, length, set, replicate};
 ghost use Rattle.draw_shares.specs.Tape.{run_at};
 ghost use Rattle.tree_sizes.specs.Sizes.{height, candidates, IsCandidate};
 ghost use Rattle.tree_rules.specs.Rules as rules;
-ghost use Rattle.tree_rules.specs.Compare.{count_after};
-ghost use Rattle.tree_counts.specs.Rebuild.{RebuildReady, RebuiltAs};
+ghost use Rattle.tree_counts.specs.Rebuild.{HalveReady, left_of, right_of, RebuildReady, RangeReady, RebuiltAs};
 
 use draw::Drawn;
-use tree_rules::Change;
 use tree_sizes::Size;
 
 // The range that a change is confined to: its number, its depth, and the rank of the entry in it.
@@ -20,148 +18,124 @@ pub struct Part {
     pub rank: usize,
 }
 
-// The rank at which an entry comes in or goes out.
-pub fn rank_of(change: Change) -> usize
-    ensures { result ≡ rules.rank_of change }
-{
-    match change {
-        Change::Insert(i) => i,
-        Change::Delete(i) => i,
-    }
-}
-
-// The same change at the rank j.
-pub fn at_rank(change: Change, j: usize) -> Change
-    ensures { result ≡ rules.at_rank change j }
-{
-    match change {
-        Change::Insert(_) => Change::Insert(j),
-        Change::Delete(_) => Change::Delete(j),
-    }
-}
-
-// The number of entries after the change of n entries.
-pub fn count_after(change: Change, n: usize) -> usize
-    requires { rules.InReach change n × (n < 2 ^ 62) }
-    ensures { result ≡ count_after change n }
-{
-    match change {
-        Change::Insert(_) => n + 1,
-        Change::Delete(_) => n - 1,
-    }
-}
-
-// What the rebuilding of a range comes to: the place of the next word, or the tape ended.
+// A range of the tree: its number, its depth, the levels from it to the leaves, and its number of entries.
 #[derive(Clone, Copy)]
-pub enum Rebuilt {
-    Done(usize),
-    Ended,
+pub struct Range {
+    pub k: usize,
+    pub depth: usize,
+    pub levels: usize,
+    pub n: usize,
 }
 
-// Rebuilds the range k at `depth`, which has c candidates and is `levels` above the leaves, for n entries: its balance entry is drawn, then
-// its left half and then its right half, which have half as many candidates, are rebuilt in the same way. Halves that are leaves are written
-// at once.
+impl Range {
+    // Its left half, where b is the balance rank.
+    pub fn left(self, b: usize) -> Range
+        requires { HalveReady self b }
+        ensures { result ≡ left_of self b }
+    {
+        Range {
+            k: 2 * self.k,
+            depth: self.depth + 1,
+            levels: self.levels - 1,
+            n: b,
+        }
+    }
+
+    // Its right half.
+    pub fn right(self, b: usize) -> Range
+        requires { HalveReady self b }
+        ensures { result ≡ right_of self b }
+    {
+        Range {
+            k: 2 * self.k + 1,
+            depth: self.depth + 1,
+            levels: self.levels - 1,
+            n: self.n - b,
+        }
+    }
+}
+
+// Rebuilds a range above the leaves, which has c candidates: its balance entry is drawn, then its left half and then its right half, which
+// have half as many candidates, are rebuilt in the same way. Halves that are leaves are written at once. Gives the place of the next word, or
+// none where the tape ended.
 fn rebuild_above(
     c: usize,
     size: Size,
-    levels: usize,
-    depth: usize,
-    k: usize,
-    n: usize,
+    here: Range,
     counts: &mut [u32],
     tape: &[u32],
     at: usize,
-) -> Rebuilt
-    requires count { c ≡ candidates size.m depth }
-    requires above { levels ≢ 0 }
-    requires ready { RebuildReady size.m levels depth k n (length counts.old) }
-    ensures { RebuiltAs (run_at (rules.rebuild size.m levels depth n) tape.now at) result k n counts.old counts.new }
+) -> Option<usize>
+    requires count { c ≡ candidates size.m here.depth }
+    requires above { here.levels ≢ 0 }
+    requires ready { RangeReady size.m here (length counts.old) }
+    ensures { RebuiltAs (run_at (rules.rebuild size.m here.levels here.depth here.n) tape.now at) result here.k here.n counts.old counts.new }
 {
-    counts[k] = n as u32;
-    match draw::draw(tape, at, c) {
-        Drawn::Face { face, next } => {
-            let b = tree_sizes::window_start(n, c) + face;
-            let rest = n - b;
-            let left = 2 * k;
-            let right = left + 1;
-            let lower = levels - 1;
-            if lower == 0 {
-                counts[left] = b as u32;
-                counts[right] = rest as u32;
-                return Rebuilt::Done(next);
-            }
-            let below = depth + 1;
-            let half = Size::half_candidates(c);
-            match rebuild_above(half, size, lower, below, left, b, counts, tape, next) {
-                Rebuilt::Done(mid) => {
-                    rebuild_above(half, size, lower, below, right, rest, counts, tape, mid)
-                }
-                Rebuilt::Ended => Rebuilt::Ended,
-            }
-        }
-        Drawn::Ended => Rebuilt::Ended,
+    counts[here.k] = here.n as u32;
+    let Drawn { face, next } = draw::draw(tape, at, c)?;
+    let b = tree_sizes::window_start(here.n, c) + face;
+    let left = here.left(b);
+    let right = here.right(b);
+    if left.levels == 0 {
+        counts[left.k] = left.n as u32;
+        counts[right.k] = right.n as u32;
+        return Some(next);
     }
+    let half = Size::half_candidates(c);
+    let mid = rebuild_above(half, size, left, counts, tape, next)?;
+    rebuild_above(half, size, right, counts, tape, mid)
 }
 
-// Rebuilds the range k at `depth`, `levels` above the leaves, for n entries, and the ranges below it.
+// Rebuilds a range and the ranges below it.
 pub fn rebuild(
     size: Size,
-    levels: usize,
-    depth: usize,
-    k: usize,
-    n: usize,
+    here: Range,
     counts: &mut [u32],
     tape: &[u32],
     at: usize,
-) -> Rebuilt
-    requires { RebuildReady size.m levels depth k n (length counts.old) }
-    ensures { RebuiltAs (run_at (rules.rebuild size.m levels depth n) tape.now at) result k n counts.old counts.new }
+) -> Option<usize>
+    requires { RangeReady size.m here (length counts.old) }
+    ensures { RebuiltAs (run_at (rules.rebuild size.m here.levels here.depth here.n) tape.now at) result here.k here.n counts.old counts.new }
 {
-    if levels == 0 {
-        counts[k] = n as u32;
-        return Rebuilt::Done(at);
+    if here.levels == 0 {
+        counts[here.k] = here.n as u32;
+        return Some(at);
     }
-    let c = size.candidates(depth);
-    rebuild_above(c, size, levels, depth, k, n, counts, tape, at)
+    let c = size.candidates(here.depth);
+    rebuild_above(c, size, here, counts, tape, at)
 }
 
-// Makes b the balance rank of the range k of n entries at `depth`, and rebuilds its left half and then its right half, which are `levels`
-// above the leaves.
+// Makes b the balance rank of a range above the leaves, and rebuilds its left half and then its right half.
 pub fn rebuild_halves(
     size: Size,
-    levels: usize,
-    depth: usize,
-    k: usize,
-    n: usize,
+    here: Range,
     b: usize,
     counts: &mut [u32],
     tape: &[u32],
     at: usize,
-) -> Rebuilt
-    requires { RebuildReady size.m (suc levels) depth k n (length counts.old) × IsCandidate n (candidates size.m depth) b }
-    ensures { RebuiltAs (run_at (rules.rebuild_halves size.m levels depth n b) tape.now at) result k n counts.old counts.new }
+) -> Option<usize>
+    requires above { here.levels ≢ 0 }
+    requires ready { RangeReady size.m here (length counts.old) }
+    requires candidate { IsCandidate here.n (candidates size.m here.depth) b }
+    ensures { RebuiltAs (run_at (rules.rebuild_halves size.m (here.levels - 1) here.depth here.n b) tape.now at) result here.k here.n counts.old counts.new }
 {
-    counts[k] = n as u32;
-    let rest = n - b;
-    let left = 2 * k;
-    let right = left + 1;
-    let below = depth + 1;
-    match rebuild(size, levels, below, left, b, counts, tape, at) {
-        Rebuilt::Done(mid) => rebuild(size, levels, below, right, rest, counts, tape, mid),
-        Rebuilt::Ended => Rebuilt::Ended,
-    }
+    counts[here.k] = here.n as u32;
+    let mid = rebuild(size, here.left(b), counts, tape, at)?;
+    rebuild(size, here.right(b), counts, tape, mid)
 }
 
 // Everything rebuilt for n entries: all counts become zero, then the size parameter and the ranges are written.
-pub fn fresh(size: Size, n: usize, counts: &mut [u32], tape: &[u32], at: usize) -> Rebuilt
+pub fn fresh(size: Size, n: usize, counts: &mut [u32], tape: &[u32], at: usize) -> Option<usize>
     requires { RebuildReady size.m (height size.m) 0 1 n (length counts.old) }
     ensures { RebuiltAs (run_at (rules.rebuild size.m (height size.m) 0 n) tape.now at) result 1 n (set (replicate (length counts.old) 0) 0 size.m) counts.new }
 {
-    let mut i = 0;
-    while i < counts.len() {
-        counts[i] = 0;
-        i += 1;
-    }
+    counts.fill(0);
     counts[0] = size.m as u32;
-    rebuild(size, size.height(), 0, 1, n, counts, tape, at)
+    let root = Range {
+        k: 1,
+        depth: 0,
+        levels: size.height(),
+        n,
+    };
+    rebuild(size, root, counts, tape, at)
 }

@@ -1,5 +1,5 @@
 -- A whole sheet rebuilt on the words of its shape k.
-use Rattle.std.specs.Prelude.{◌≡◌, ◌≢◌, List, [], ◌∷◌, ◌++◌, drop, set, replicate}
+use Rattle.std.specs.Prelude.{◌≡◌, ◌≢◌, List, [], ◌∷◌, ◌++◌, drop, set, replicate, Option}
 use Rattle.std.proofs.Math.Path.{refl, ap}
 use Rattle.std.proofs.Common.{sym, ◌∙◌, arith, pow_mono}
 use Rattle.std.proofs.Math.Logic.{⊎_elim}
@@ -12,7 +12,6 @@ use Rattle.tree_sizes.proofs.SizeLaws.{height_small}
 use Rattle.tree_sizes.proofs.Fit.{fit, fits_pos}
 use Rattle.tree_rules.specs.Tree.{Tree, leaf, Shape}
 use Rattle.tree_rules.specs.Rules.{rebuild}
-use Rattle.tree_counts.specs.declared.Rebuilt.{Rebuilt}
 use Rattle.tree_counts.specs.Counts.{shape_counts}
 use Rattle.tree_counts.specs.Rebuild.{RebuildReady, RebuiltAs}
 use Rattle.tree_shapes.specs.Shapes.{trees, shape_at, tree_count, shape_count}
@@ -86,7 +85,7 @@ module _ {M N k room : ℕ} (w : ShapeReady M N k room) where
       only (suc k) l = absurd (omega arith)
 
   -- What the rebuilding leaves are the counts of shape k.
-  pub shape_put : {old words : List ℕ} {next : ℕ} → length old ≡ 128 → Put old 0 (tree_words (root_candidates M) (height M) k) words next → (answer : Rebuilt) (counts : List ℕ)
+  pub shape_put : {old words : List ℕ} {next : ℕ} → length old ≡ 128 → Put old 0 (tree_words (root_candidates M) (height M) k) words next → (answer : Option ℕ) (counts : List ℕ)
       → RebuiltAs (run_at (rebuild M (height M) 0 N) words 0) answer 1 N (set (replicate room 0) 0 M) counts
       → counts ≡ shape_counts room N (shape_at N M k)
   unfolding RebuiltAs shape_counts

@@ -5,8 +5,7 @@ use Rattle.std.proofs.Math.Nat.{pow-succ', le-mul_of_pos_right}
 use Rattle.std.proofs.Math.Seq.{drop-append_seam, length-sets}
 use Rattle.std.proofs.lemmas.List.Edits.{sets, sets-eq}
 use Rattle.base.specs.CaseLaws.{eq_or_ne, if_eq_yes, if_eq_no}
-use Rattle.draw.specs.declared.Drawn.TheVariants.{Face}
-use Rattle.draw.specs.Draw.{draw_at}
+use Rattle.draw.specs.Draw.{face_at, draw_at}
 use Rattle.draw.specs.DrawLaws.{draw_one}
 use Rattle.draw.specs.WordLaws.{word_decides}
 use Rattle.draw_shares.specs.Program.{Program, done}
@@ -54,14 +53,14 @@ module _ {c levels k : ℕ} (w : IsNumber c (suc levels) k) where
 behind : (tape words rest : List ℕ) (at : ℕ) → drop at tape ≡ words ++ rest → drop (at + length words) tape ≡ rest
 behind tape words rest at e = sym (drop-drop (length words) at tape) ∙ rw e (drop-append_seam words rest)
 
-word_read : (m f : ℕ) (tape rest : List ℕ) (at : ℕ) → m ≢ 1 → f < m → m ≤ 2 ^ 32 → drop at tape ≡ f ∷ rest → draw_at m tape at ≡ Face f (suc at)
+word_read : (m f : ℕ) (tape rest : List ℕ) (at : ℕ) → m ≢ 1 → f < m → m ≤ 2 ^ 32 → drop at tape ≡ f ∷ rest → draw_at m tape at ≡ face_at f (suc at)
 word_read m f tape rest at many below few e =
     let whole : take at tape ++ f ∷ rest ≡ tape = ap (λ (l : List ℕ). take at tape ++ l) (sym e) ∙ take-append-drop at tape in
     let front : length (take at tape) ≡ at = length-take-le at tape (omega (arith, length-drop at tape, ap length e)) in
     rw (whole, front) at (word_decides m f (take at tape) rest many below few)
 
 face_read : (c f : ℕ) (tape rest : List ℕ) (at : ℕ) → f < c → c ≤ 2 ^ 32 → drop at tape ≡ face_words c f ++ rest
-    → draw_at c tape at ≡ Face f (at + length (face_words c f))
+    → draw_at c tape at ≡ face_at f (at + length (face_words c f))
 unfolding face_words draw_at
 face_read c f tape rest at below few e =
     ⊎_elim

@@ -1,6 +1,7 @@
 -- Laws of the size rules, for every size M: digits and height as powers of two define them, rounding up, and windows.
-use Rattle.std.specs.Prelude.{◌≡◌, ◌⊎◌, ℕ, zero, suc, ◌+◌, ◌-◌, ◌*◌, ◌/◌, ◌^◌, ◌≤◌, ◌<◌}
-use Rattle.std.proofs.Common.{sym, inl, inr, ⊎_elim, pow_pos, pow_mono, le_trans, lt_of_not-le, mod-lt, mul-le-mul, mul-le-mul_left, mul-le-mul_right, mul_assoc, mul-pos, pow-suc, zero-lt-suc, arith, le-leb}
+use Rattle.std.specs.Prelude.{◌≡◌, ◌⊎◌, ℕ, zero, suc, ◌+◌, ◌-◌, ◌*◌, ◌/◌, ◌%◌, ◌^◌, ◌≤◌, ◌<◌, min}
+use Rattle.std.proofs.Common.{sym, inl, inr, ⊎_elim, pow_pos, pow_mono, le_trans, lt_of_not-le, mod-lt, mul-le-mul, mul-le-mul_left, mul-le-mul_right, mul_assoc, mul-pos, pow-suc, zero-lt-suc, mul-suc, arith, le-leb}
+use Rattle.std.specs.Int.{div_ceil}
 use Rattle.std.specs.Int.Count.{count_leading_zeros}
 use Rattle.std.proofs.lemmas.Nat.{leading_top}
 use Rattle.std.proofs.Math.Nat.{div-add-mod, pow-succ'}
@@ -183,6 +184,19 @@ ceil_div_is a b h = record {
   enough = omega (arith, div-add-mod (a + (b - 1)) b, mod-lt (a + (b - 1)) h);
   below = omega (arith, div-add-mod (a + (b - 1)) b);
 }
+
+-- The quotient that the library rounds up is this one.
+pub div_ceil_is : (a b : ℕ) → 0 < b → div_ceil a b ≡ ceil_div a b
+div_ceil_is a b h =
+    let same = ceil_div_is a b h in
+    let mine = above (a % b) (div-add-mod a b) (mod-lt a h) in
+    omega (arith, ceiling_least a b (div_ceil a b) mine (ceil_div a b) same.enough, ceiling_least a b (ceil_div a b) same (div_ceil a b) mine.enough)
+  where
+    above : (r : ℕ) → b * (a / b) + r ≡ a → r < b → Ceiling a b (a / b + min 1 r)
+    above zero e l = let none : a / b + min 1 0 ≡ a / b = omega arith in rw none (record { enough = omega arith; below = omega arith })
+    above (suc r) e l =
+        let more : a / b + min 1 (suc r) ≡ suc (a / b) = omega arith in
+        rw more (record { enough = rw mul-suc (omega arith); below = rw mul-suc (omega arith) })
 
 pub ceil_div_half : (n : ℕ) → n - n / 2 ≡ ceil_div n 2
 unfolding ceil_div

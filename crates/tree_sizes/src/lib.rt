@@ -25,24 +25,17 @@ impl Size {
         ensures { result ≡ digits self.m }
     {
         let below = self.m - 1;
-        64 - (usize::leading_zeros(below) as usize)
+        64 - below.leading_zeros() as usize
     }
 
     // h, the depth of the leaves: 0 up to M = 64; above, how often g can be doubled without passing M.
     pub fn height(self) -> usize
         ensures { result ≡ height self.m }
     {
-        let m = self.m;
-        if m <= 64 {
+        if self.m <= 64 {
             return 0;
         }
-        let mut doubled = self.digits();
-        let mut h: usize = 0;
-        while doubled <= m - doubled {
-            doubled += doubled;
-            h += 1;
-        }
-        h
+        (self.m / self.digits()).ilog2() as usize
     }
 
     // The slots of a leaf: M up to M = 64, where the one range is the leaf; above, 3 g.
@@ -73,14 +66,14 @@ impl Size {
         ensures { result ≡ candidates self.m depth }
     {
         let step = 4 * self.digits() * power(depth);
-        (self.m + (step - 1)) / step
+        self.m.div_ceil(step)
     }
 
     // The number of candidates of each half of a range with c candidates, above the leaves: half of c, rounded up.
     pub fn half_candidates(c: usize) -> usize
         ensures { result ≡ half_candidates c }
     {
-        c - c / 2
+        c.div_ceil(2)
     }
 }
 
@@ -89,5 +82,5 @@ pub fn window_start(n: usize, c: usize) -> usize
     requires fit { c ≤ n }
     ensures { result ≡ window_start n c }
 {
-    (n - n / 2) - (c - c / 2)
+    n.div_ceil(2) - c.div_ceil(2)
 }

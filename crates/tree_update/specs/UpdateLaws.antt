@@ -1,5 +1,5 @@
 -- Laws of the whole change: what the size step and the walk ask, and what they leave.
-use Rattle.std.specs.Prelude.{◌≡◌, List, ℕ, length, set, replicate}
+use Rattle.std.specs.Prelude.{◌≡◌, List, ℕ, length, set, replicate, Option, Some, None}
 use Rattle.std.proofs.Math.Path.{refl, ap, subst}
 use Rattle.std.proofs.Common.{sym, ◌∙◌, arith}
 use Rattle.std.proofs.Math.Logic.{inl}
@@ -16,31 +16,29 @@ use Rattle.tree_rules.specs.Rules.{rebuild, rank_of, SizeStep, kept, anew, size_
 use Rattle.tree_rules.specs.Step.{stepped_as}
 use Rattle.tree_rules.specs.ChangeLaws.{count_most}
 use Rattle.tree_rules.proofs.ShapeLaws.{step_ends}
-use Rattle.tree_counts.specs.declared.Rebuilt.{Rebuilt}
 use Rattle.tree_counts.specs.Counts.{shape_counts, shape_in}
 use Rattle.tree_counts.specs.Confined.{Confined}
 use Rattle.tree_counts.specs.Rebuild.{RebuildReady, RebuiltAs}
 use Rattle.tree_walk.specs.declared.Updated.{Updated}
-use Rattle.tree_walk.specs.declared.Updated.TheVariants as updated
 use Rattle.tree_walk.specs.Updated.{rebuilt_to, UpdatedAs}
 use Rattle.tree_walk.specs.Walk.{WalkReady}
 use Rattle.tree_update.specs.Update.{UpdateReady}
 
 -- ---- the size step's answer
 
-stepped_kept : (run : Ran SizeStep) (next : ℕ) → stepped_as run ≡ stepped.Kept next → run ≡ ran kept next
+stepped_kept : (run : Ran SizeStep) (next : ℕ) → stepped_as run ≡ Some (stepped.Kept next) → run ≡ ran kept next
 unfolding stepped_as
 stepped_kept (ran kept i) next e = let d : i ≡ next = cc in rw d
 stepped_kept (ran (anew M) i) next e = let z : ◌≡◌ {A = ℕ} 0 1 = cc in absurd (omega arith)
 stepped_kept ended next e = let z : ◌≡◌ {A = ℕ} 0 1 = cc in absurd (omega arith)
 
-stepped_anew : (run : Ran SizeStep) (M next : ℕ) → stepped_as run ≡ stepped.Anew M next → run ≡ ran (anew M) next
+stepped_anew : (run : Ran SizeStep) (M next : ℕ) → stepped_as run ≡ Some (stepped.Anew M next) → run ≡ ran (anew M) next
 unfolding stepped_as
 stepped_anew (ran kept i) M next e = let z : ◌≡◌ {A = ℕ} 0 1 = cc in absurd (omega arith)
 stepped_anew (ran (anew M') i) M next e = let d : i ≡ next = cc in let d' : M' ≡ M = cc in rw (d, d')
 stepped_anew ended M next e = let z : ◌≡◌ {A = ℕ} 0 1 = cc in absurd (omega arith)
 
-stepped_ended : (run : Ran SizeStep) → stepped_as run ≡ stepped.Ended → run ≡ ended
+stepped_ended : (run : Ran SizeStep) → stepped_as run ≡ None → run ≡ ended
 unfolding stepped_as
 stepped_ended (ran kept i) e = let z : ◌≡◌ {A = ℕ} 0 1 = cc in absurd (omega arith)
 stepped_ended (ran (anew M) i) e = let z : ◌≡◌ {A = ℕ} 0 1 = cc in absurd (omega arith)
@@ -64,7 +62,7 @@ module _ {change : Change} {N M : ℕ} {counts : List ℕ} (ready : UpdateReady 
 
   -- ---- the answer
 
-  anew_as : (run : Ran Tree) (M' : ℕ) (result : Rebuilt) (counts' : List ℕ)
+  anew_as : (run : Ran Tree) (M' : ℕ) (result : Option ℕ) (counts' : List ℕ)
       → RebuiltAs run result 1 (count_after change N) (set (replicate (length counts) 0) 0 M') counts'
       → UpdatedAs change N (shape_in counts) (after_run run (λ t next. ran (record { size = M'; tree = t }) next))
       (rebuilt_to M' (record { range = 1; depth = 0; rank = rank_of change }) result) (length counts) counts'
@@ -74,7 +72,7 @@ module _ {change : Change} {N M : ℕ} {counts : List ℕ} (ready : UpdateReady 
 
   -- ---- the size step
 
-  module _ (tape : List ℕ) (answer : Stepped) (is : answer ≡ stepped_as (run_at (size_step change N M) tape 0)) where
+  module _ (tape : List ℕ) (answer : Option Stepped) (is : answer ≡ stepped_as (run_at (size_step change N M) tape 0)) where
     step_meets : (step : SizeStep) (next : ℕ) → run_at (size_step change N M) tape 0 ≡ ran step next → Allowed (count_after change N) (size_after M step)
     step_meets step next e =
         run_ends (λ step. Allowed (count_after change N) (size_after M step)) (size_step change N M) tape 0 step next
@@ -89,7 +87,7 @@ module _ {change : Change} {N M : ℕ} {counts : List ℕ} (ready : UpdateReady 
         ≡ after_run (run_at (size_step change N x) tape 0) (λ step next. run_at (reshape change N (shape_in counts) step) tape next))
         ready.size (run_bind _ (reshape change N (shape_in counts)) tape 0)
 
-    module _ (next : ℕ) (e : answer ≡ stepped.Kept next) where
+    module _ (next : ℕ) (e : answer ≡ Some (stepped.Kept next)) where
       step_kept : run_at (size_step change N M) tape 0 ≡ ran kept next
       step_kept = stepped_kept (run_at (size_step change N M) tape 0) next (sym is ∙ e)
 
@@ -107,7 +105,7 @@ module _ {change : Change} {N M : ℕ} {counts : List ℕ} (ready : UpdateReady 
       unfolding after_run
       kept_run = update_run ∙ rw step_kept
 
-    module _ (M' next : ℕ) (e : answer ≡ stepped.Anew M' next) where
+    module _ (M' next : ℕ) (e : answer ≡ Some (stepped.Anew M' next)) where
       step_anew : run_at (size_step change N M) tape 0 ≡ ran (anew M') next
       step_anew = stepped_anew (run_at (size_step change N M) tape 0) M' next (sym is ∙ e)
 
@@ -116,7 +114,7 @@ module _ {change : Change} {N M : ℕ} {counts : List ℕ} (ready : UpdateReady 
         unfolding size_after
         anew_can = rw en (can_fresh M' (step_meets (anew M') next step_anew))
 
-        pub anew_updated : (rank : ℕ) (rebuilt : Rebuilt) (result : Updated) (counts' : List ℕ) → rank ≡ rank_of change
+        pub anew_updated : (rank : ℕ) (rebuilt : Option ℕ) (result : Option Updated) (counts' : List ℕ) → rank ≡ rank_of change
             → RebuiltAs (run_at (rebuild M' (height M') 0 n) tape next) rebuilt 1 n (set (replicate (length counts) 0) 0 M') counts'
             → result ≡ rebuilt_to M' (record { range = 1; depth = 0; rank = rank }) rebuilt
             → UpdatedAs change N (shape_in counts) (run_at (update change N (shape_in counts)) tape 0) result (length counts) counts'
@@ -125,7 +123,7 @@ module _ {change : Change} {N M : ℕ} {counts : List ℕ} (ready : UpdateReady 
             rw (is, er, update_run, step_anew, run_bind)
             (anew_as (run_at (rebuild M' (height M') 0 (count_after change N)) tape next) M' rebuilt counts' (rw en at h))
 
-    pub ended_updated : (counts' : List ℕ) → answer ≡ stepped.Ended
-        → UpdatedAs change N (shape_in counts) (run_at (update change N (shape_in counts)) tape 0) updated.Ended (length counts) counts'
+    pub ended_updated : (counts' : List ℕ) → answer ≡ None
+        → UpdatedAs change N (shape_in counts) (run_at (update change N (shape_in counts)) tape 0) None (length counts) counts'
     unfolding after_run UpdatedAs
     ended_updated counts' e = rw (update_run, stepped_ended (run_at (size_step change N M) tape 0) (sym is ∙ e)) refl

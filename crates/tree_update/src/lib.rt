@@ -15,26 +15,36 @@ use tree_walk::Updated;
 
 // Changes the counts of n entries with the size parameter m, by the words of the tape from its start: the size step first; then the walk,
 // or everything is rebuilt.
-pub fn update(change: Change, n: usize, m: usize, counts: &mut [u32], tape: &[u32]) -> Updated
+pub fn update(
+    change: Change,
+    n: usize,
+    m: usize,
+    counts: &mut [u32],
+    tape: &[u32],
+) -> Option<Updated>
     requires { UpdateReady change n m counts.old }
     ensures { UpdatedAs change n (shape_in counts.old) (run_at (rules.update change n (shape_in counts.old)) tape.now 0) result (length counts.old) counts.new }
 {
-    match tree_rules::size_step(change, n, m, tape, 0) {
+    let stepped = tree_rules::size_step(change, n, m, tape, 0)?;
+    match stepped {
         Stepped::Kept { next } => {
-            let size = Size { m: m };
+            let size = Size { m };
             tree_walk::walk(change, n, size, counts, tape, next)
         }
         Stepped::Anew { m: anew, next } => {
             let size = Size { m: anew };
+            let after = change.count_after(n);
+            let next = tree_counts::fresh(size, after, counts, tape, next)?;
             let part = Part {
                 range: 1,
                 depth: 0,
-                rank: tree_counts::rank_of(change),
+                rank: change.rank(),
             };
-            let after = tree_counts::count_after(change, n);
-            let rebuilt = tree_counts::fresh(size, after, counts, tape, next);
-            tree_walk::finish(anew, part, rebuilt)
+            Some(Updated {
+                m: anew,
+                part,
+                next,
+            })
         }
-        Stepped::Ended => Updated::Ended,
     }
 }

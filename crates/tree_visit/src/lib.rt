@@ -9,40 +9,38 @@ ghost use Rattle.tree_visit.specs.Visit.{visit_at};
 use draw::Drawn;
 use tree_rules::{Change, Comparison};
 
-// What the rule gives at a range that the walk visits: it passes on below, the balance entry leaves, the entering entry becomes the
-// balance entry, or the tape ended. With the place of the next word.
+// What the rule gives at a range that the walk visits: it passes on below, the balance entry leaves, or the entering entry becomes the
+// balance entry. With the place of the next word.
 #[derive(Clone, Copy)]
 pub enum Visited {
     Pass { next: usize },
     Rebuild { next: usize },
     Enter { into: usize, next: usize },
-    Ended,
 }
 
 // Visits a range of n entries with c candidates and the balance rank b: the candidates before and after the change are compared, and
 // where another than the balance entry leaves, a draw among c says whether the entering one becomes the balance entry.
-pub fn visit(change: Change, n: usize, c: usize, b: usize, tape: &[u32], at: usize) -> Visited
+#[tactic(auto, unfolding(crate::specs::Visit::visit_at, crate::specs::Visit::visit_drawn, base::specs::Cases::if_eq))]
+pub fn visit(
+    change: Change,
+    n: usize,
+    c: usize,
+    b: usize,
+    tape: &[u32],
+    at: usize,
+) -> Option<Visited>
     requires { CompareReady change n c }
     ensures { result ≡ visit_at (compare change n c) c b tape.now at }
 {
-    match tree_rules::compare(change, n, c) {
-        Comparison::Unchanged => Visited::Pass { next: at },
-        Comparison::Swapped { out, into } => {
-            if b == out {
-                return Visited::Rebuild { next: at };
-            }
-            match draw::draw(tape, at, c) {
-                Drawn::Face { face, next } => {
-                    if face == 0 {
-                        return Visited::Enter {
-                            into: into,
-                            next: next,
-                        };
-                    }
-                    Visited::Pass { next: next }
-                }
-                Drawn::Ended => Visited::Ended,
-            }
-        }
+    let Comparison::Swapped { out, into } = tree_rules::compare(change, n, c) else {
+        return Some(Visited::Pass { next: at });
+    };
+    if b == out {
+        return Some(Visited::Rebuild { next: at });
     }
+    let Drawn { face, next } = draw::draw(tape, at, c)?;
+    if face == 0 {
+        return Some(Visited::Enter { into, next });
+    }
+    Some(Visited::Pass { next })
 }

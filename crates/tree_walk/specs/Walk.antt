@@ -1,5 +1,5 @@
 -- The walk down from the root, where the size parameter is kept: what it asks, and where it stops. Definitions only.
-use Rattle.std.specs.Prelude.{◌≡◌, List, ℕ, ◌+◌, ◌-◌, ◌*◌, ◌^◌, ◌≤◌, ◌<◌, length, get_or}
+use Rattle.std.specs.Prelude.{◌≡◌, List, ℕ, ◌+◌, ◌-◌, ◌*◌, ◌^◌, ◌≤◌, ◌<◌, length, get_or, Some}
 use Rattle.base.specs.Cases.{if_lt}
 use Rattle.draw_shares.specs.Program.{done}
 use Rattle.draw_shares.specs.Tape.{Ran, ran, after_run, run_at}
@@ -9,12 +9,13 @@ use Rattle.tree_rules.specs.Tree.{Tree, leaf, Balanced, IsShape}
 use Rattle.tree_rules.specs.Compare.{count_after}
 use Rattle.tree_rules.specs.Rules.{InReach, rebuild, rebuild_halves, walk, rank_of, at_rank}
 use Rattle.tree_counts.specs.declared.Part.{Part}
+use Rattle.tree_counts.specs.declared.Range.{Range}
 use Rattle.tree_counts.specs.Counts.{read_tree, write_tree, Holds, shape_counts, shape_in}
 use Rattle.tree_counts.specs.Confined.{Within}
-use Rattle.tree_counts.specs.Rebuild.{RebuildReady}
+use Rattle.tree_counts.specs.Rebuild.{left_of, right_of, RebuildReady}
 use Rattle.tree_visit.specs.declared.Visited.TheVariants as visited
 use Rattle.tree_visit.specs.Visit.{visit_run}
-use Rattle.tree_walk.specs.declared.Range.{Range}
+use Rattle.tree_walk.specs.declared.Walked.{Walked}
 use Rattle.tree_walk.specs.declared.Stop.{Stop}
 
 -- ---- one range
@@ -23,33 +24,23 @@ use Rattle.tree_walk.specs.declared.Stop.{Stop}
 abbrev pub CountedAt : ℕ → ℕ → ℕ → Type 0
 CountedAt M d c = 1 < M → c ≡ candidates M d
 
--- A range above the leaves whose numbers are small enough to count on, and a balance rank in it.
-pub record HalveReady (range : Range) (b : ℕ) : Type 0 where
-  pub above : 0 < range.levels
-  pub shallow : range.depth < 2 ^ 32
-  pub small : range.k < 2 ^ 62
-  pub inside : b ≤ range.n
-
 -- The half of a range, with the balance rank b, that gains or loses the entry.
-unfoldable pub half_of : Range → ℕ → Range
-half_of range b =
-    let rank = rank_of range.change in
+unfoldable pub half_of : Walked → ℕ → Walked
+half_of here b =
+    let rank = rank_of here.change in
     if_lt b rank
-    record {
-      k = 2 * range.k + 1;
-      depth = range.depth + 1;
-      levels = range.levels - 1;
-      n = range.n - b;
-      change = at_rank range.change (rank - b);
-    }
-    record { k = 2 * range.k; depth = range.depth + 1; levels = range.levels - 1; n = b; change = range.change }
+    record { range = right_of here.range b; change = at_rank here.change (rank - b) }
+    record { range = left_of here.range b; change = here.change }
 
 -- Its number of entries after the change, and the part that it is.
-abbrev pub entries_after : Range → ℕ
-entries_after range = count_after range.change range.n
+abbrev pub entries_after : Walked → ℕ
+entries_after here = count_after here.change here.range.n
 
-abbrev pub part_of : Range → Part
-part_of range = record { range = range.k; depth = range.depth; rank = rank_of range.change }
+abbrev pub range_after : Walked → Range
+range_after here = record { k = here.range.k; depth = here.range.depth; levels = here.range.levels; n = entries_after here }
+
+abbrev pub part_of : Walked → Part
+part_of here = record { range = here.range.k; depth = here.range.depth; rank = rank_of here.change }
 
 -- ---- the walk
 
@@ -89,21 +80,21 @@ pub record Walking (change : Change) (N M : ℕ) (counts₀ tape : List ℕ) (st
 -- The run from the range on: it is rebuilt, or its halves are; at a leaf nothing is drawn.
 unfoldable pub stop_run : ℕ → List ℕ → Stop → Ran Tree
 stop_run M tape stop =
-    let range = stop.range in
-    visit_run (rebuild M range.levels range.depth (entries_after range))
-    (rebuild_halves M (range.levels - 1) range.depth (entries_after range))
-    (done leaf) tape stop.visited
+    let here = stop.here in
+    visit_run (rebuild M here.range.levels here.range.depth (entries_after here))
+    (rebuild_halves M (here.range.levels - 1) here.range.depth (entries_after here))
+    (done leaf) tape (Some stop.visited)
 
 -- Where an entry enters, the range is no leaf, and the entry is one of its candidates after the change.
 abbrev pub EntersCandidate : ℕ → Stop → Type 0
 EntersCandidate M stop =
     (into next : ℕ) → stop.visited ≡ visited.Enter into next
-    → (0 < stop.range.levels) × IsCandidate (entries_after stop.range) (candidates M stop.range.depth) into
+    → (0 < stop.here.range.levels) × IsCandidate (entries_after stop.here) (candidates M stop.here.range.depth) into
 
 -- The range can be rebuilt for its entries after the change, and so can its halves.
 pub record StopReady (M : ℕ) (stop : Stop) (room : ℕ) : Type 0 where
-  pub reach : InReach stop.range.change stop.range.n
-  pub can : RebuildReady M stop.range.levels stop.range.depth stop.range.k (entries_after stop.range) room
+  pub reach : InReach stop.here.change stop.here.range.n
+  pub can : RebuildReady M stop.here.range.levels stop.here.range.depth stop.here.range.k (entries_after stop.here) room
   pub enters : EntersCandidate M stop
 
 -- The walk from the place `start` has stopped.
@@ -111,6 +102,6 @@ pub record Stopped (change : Change) (N M : ℕ) (counts₀ tape : List ℕ) (st
   pub plug : Tree → Tree
   pub run : walk_run change N M counts₀ tape start ≡ after_run (stop_run M tape stop) (λ t next. ran (plug t) next)
   pub written : (t : Tree)
-      → write_tree counts₀ 1 (count_after change N) (plug t) ≡ write_tree counts stop.range.k (entries_after stop.range) t
-  pub within : (t : Tree) → Within 1 0 change (read_tree (height M) counts₀ 1) (plug t) (part_of stop.range)
+      → write_tree counts₀ 1 (count_after change N) (plug t) ≡ write_tree counts stop.here.range.k (entries_after stop.here) t
+  pub within : (t : Tree) → Within 1 0 change (read_tree (height M) counts₀ 1) (plug t) (part_of stop.here)
   pub ready : StopReady M stop (length counts)

@@ -1,7 +1,7 @@
 -- Laws of the walk: what a visit of a range does to the run, where the walk stops, and how it goes on below.
 use Rattle.std.proofs.Math.Path.{◌≡◌, refl, ap, sym, subst}
 use Rattle.std.proofs.Common.{◌∙◌, inl, add-one, length-set}
-use Rattle.std.specs.Prelude.{◌≢◌, length, get_or, set}
+use Rattle.std.specs.Prelude.{◌≢◌, length, get_or, set, Option, Some, None}
 use Rattle.std.proofs.Math.Logic.{inr, ⊎_elim}
 use mathlib.Core.List.{List}
 use Prim.Native.Nat.{ℕ, suc, ◌+◌, ◌-◌, ◌*◌, ◌^◌, ◌≤◌, ◌<◌}
@@ -23,7 +23,6 @@ use Rattle.tree_rules.specs.ChangeLaws.{count_least, right_reach, right_after, r
 use Rattle.tree_rules.specs.Rules.{InReach, rebuild, rebuild_halves, walk_half, walk, rank_of, at_rank, kept, reshape}
 use Rattle.tree_rules.proofs.ShapeLaws.{walk_ends}
 use Rattle.tree_counts.specs.declared.Part.{Part}
-use Rattle.tree_counts.specs.declared.Rebuilt.{Rebuilt}
 use Rattle.tree_counts.specs.Ranges.{Perfect}
 use Rattle.tree_counts.specs.Counts.{read_tree, write_tree, Holds, shape_counts, shape_in}
 use Rattle.tree_counts.specs.Confined.{Within, Confined}
@@ -36,7 +35,7 @@ use Rattle.tree_visit.specs.declared.Visited.{Visited}
 use Rattle.tree_visit.specs.declared.Visited.TheVariants as visited
 use Rattle.tree_visit.specs.Visit.{visit_at, visit_run}
 use Rattle.tree_visit.specs.VisitLaws.{visit_run_lem, stops_run, pass_stays, enters_candidate}
-use Rattle.tree_walk.specs.declared.Range.{Range}
+use Rattle.tree_walk.specs.declared.Walked.{Walked}
 use Rattle.tree_walk.specs.declared.Stop.{Stop}
 use Rattle.tree_walk.specs.declared.Updated.{Updated}
 use Rattle.tree_walk.specs.Updated.{rebuilt_to, UpdatedAs}
@@ -151,23 +150,23 @@ module _ {change : Change} {N M : ℕ} {counts : List ℕ} (p : WalkReady change
 
 -- ---- a range that the walk comes to
 
-module _ {change : Change} {N M : ℕ} {counts₀ tape : List ℕ} {start : ℕ} {counts : List ℕ} {at : ℕ} (range : Range)
-    (w : Walking change N M counts₀ tape start counts range.levels range.depth range.k range.n range.change at) where
+module _ {change : Change} {N M : ℕ} {counts₀ tape : List ℕ} {start : ℕ} {counts : List ℕ} {at : ℕ} (here : Walked)
+    (w : Walking change N M counts₀ tape start counts here.range.levels here.range.depth here.range.k here.range.n here.change at) where
   stopped_at : (v : Visited)
-      → run_at (walk M range.levels range.depth range.change range.n w.tree) tape at
-      ≡ stop_run M tape (record { range = range; visited = v })
-      → EntersCandidate M (record { range = range; visited = v })
-      → Stopped change N M counts₀ tape start (record { range = range; visited = v }) counts
+      → run_at (walk M here.range.levels here.range.depth here.change here.range.n w.tree) tape at
+      ≡ stop_run M tape (record { here = here; visited = v })
+      → EntersCandidate M (record { here = here; visited = v })
+      → Stopped change N M counts₀ tape start (record { here = here; visited = v }) counts
   stopped_at v e enters = record {
     plug = w.plug;
     run = w.run ∙ rw e;
     written = w.written;
-    within = λ t. w.within t _ (within_here range.k range.depth range.change w.tree t);
+    within = λ t. w.within t _ (within_here here.range.k here.range.depth here.change w.tree t);
     ready = record { reach = w.reach; can = w.can; enters = enters };
   }
 
 -- The values that the code has at a range: the number of candidates, the balance rank, and what the visit gives.
-pub record Seen (M : ℕ) (tape counts : List ℕ) (d k n : ℕ) (here : Change) (at c b : ℕ) (v : Visited) : Type 0 where
+pub record Seen (M : ℕ) (tape counts : List ℕ) (d k n : ℕ) (here : Change) (at c b : ℕ) (v : Option Visited) : Type 0 where
   pub count_is : c ≡ candidates M d
   pub balance_is : b ≡ get_or counts (2 * k) 0
   pub visit_is : v ≡ visit_at (compare here n c) c b tape at
@@ -209,7 +208,7 @@ module _ {change : Change} {N M : ℕ} {counts₀ tape : List ℕ} {start : ℕ}
   pub balance_below : get_or counts (2 * k) 0 < n
   balance_below = rw balance (candidate_below n (candidates M d) at_node.b comparable.before at_node.candidate)
 
-  module _ {c b : ℕ} {v : Visited} (s : Seen M tape counts d k n here at c b v) where
+  module _ {c b : ℕ} {v : Option Visited} (s : Seen M tape counts d k n here at c b v) where
     seen : visit_at (compare here n (candidates M d)) (candidates M d) at_node.b tape at ≡ v
     seen = rw (← balance, ← s.balance_is, ← s.count_is) (sym s.visit_is)
 
@@ -222,21 +221,26 @@ module _ {change : Change} {N M : ℕ} {counts₀ tape : List ℕ} {start : ℕ}
         ∙ ap (visit_run _ _ _ tape) seen
 
     -- the walk does not pass
-    node_stop : ((next : ℕ) → v ≢ visited.Pass next)
+    node_stop : (u : Visited) → v ≡ Some u → ((next : ℕ) → u ≢ visited.Pass next)
         → Stopped change N M counts₀ tape start
-        (record { range = record { k = k; depth = d; levels = suc levels; n = n; change = here }; visited = v }) counts
+        (record { here = record { range = record { k = k; depth = d; levels = suc levels; n = n }; change = here }; visited = u }) counts
     unfolding stop_run
-    node_stop stops =
+    node_stop u is stops =
         let lower : suc levels - 1 ≡ levels = omega arith in
-        stopped_at _ w v
-        (rw lower (node_run ∙ stops_run _ _ _ tape (done leaf) v stops))
+        stopped_at _ w u
+        (rw lower (node_run ∙ rw is (stops_run _ _ _ tape (done leaf) (Some u) (λ next same. stops next cc))))
         (λ into next e. (
           omega arith,
           enters_candidate here n (candidates M d) at_node.b tape at into next (compare here n (candidates M d)) moved.inside
-              (seen ∙ e),
+              (seen ∙ is ∙ ap Some e),
         ))
 
-    module _ (next : ℕ) (e : v ≡ visited.Pass next) where
+    -- the tape ends here
+    node_ended : v ≡ None → walk_run change N M counts₀ tape start ≡ ended
+    unfolding visit_run after_run
+    node_ended is = w.run ∙ rw (node_run, is)
+
+    module _ (next : ℕ) (e : v ≡ Some (visited.Pass next)) where
       stays : ¬ Leaves (compare here n (candidates M d)) at_node.b
       stays = pass_stays (compare here n (candidates M d)) (candidates M d) at_node.b tape at next (seen ∙ e)
 
@@ -325,53 +329,55 @@ module _ {change : Change} {N M : ℕ} {counts₀ tape : List ℕ} {start : ℕ}
 
 -- ---- the same in the code's range
 
-above_range : (range : Range) → range.levels ≢ 0
-    → range ≡ record { k = range.k; depth = range.depth; levels = suc (range.levels - 1); n = range.n; change = range.change }
-above_range range above =
-    ap (λ (x : ℕ). record { k = range.k; depth = range.depth; levels = x; n = range.n; change = range.change })
-    (one_more range.levels above)
+above_range : (here : Walked) → here.range.levels ≢ 0
+    → here ≡ record { range = record { k = here.range.k; depth = here.range.depth; levels = suc (here.range.levels - 1); n = here.range.n }; change = here.change }
+above_range here above =
+    ap (λ (x : ℕ). record { range = record { k = here.range.k; depth = here.range.depth; levels = x; n = here.range.n }; change = here.change })
+    (one_more here.range.levels above)
 
-module _ {change : Change} {N M : ℕ} {counts₀ tape : List ℕ} {start : ℕ} {counts : List ℕ} {at : ℕ} (range : Range)
-    (w : Walking change N M counts₀ tape start counts range.levels range.depth range.k range.n range.change at) where
-  pub entries_most : range.n < 2 ^ 62
-  entries_most = omega (arith, w.can.few, count_least range.change range.n)
+module _ {change : Change} {N M : ℕ} {counts₀ tape : List ℕ} {start : ℕ} {counts : List ℕ} {at : ℕ} (here : Walked)
+    (w : Walking change N M counts₀ tape start counts here.range.levels here.range.depth here.range.k here.range.n here.change at) where
+  pub entries_most : here.range.n < 2 ^ 62
+  entries_most = omega (arith, w.can.few, count_least here.change here.range.n)
 
-  pub stop_leaf : range.levels ≡ 0
-      → Stopped change N M counts₀ tape start (record { range = range; visited = visited.Pass at }) counts
+  pub stop_leaf : here.range.levels ≡ 0
+      → Stopped change N M counts₀ tape start (record { here = here; visited = visited.Pass at }) counts
   unfolding stop_run visit_run walk run_at
   stop_leaf leaves =
-      stopped_at range w (visited.Pass at) (rw leaves) (λ into next e. let z : ◌≡◌ {A = ℕ} 0 1 = cc in absurd (omega arith))
+      stopped_at here w (visited.Pass at) (rw leaves) (λ into next e. let z : ◌≡◌ {A = ℕ} 0 1 = cc in absurd (omega arith))
 
-  module _ (above : range.levels ≢ 0) where
+  module _ (above : here.range.levels ≢ 0) where
     pub above_walking :
-        Walking change N M counts₀ tape start counts (suc (range.levels - 1)) range.depth range.k range.n range.change at
+        Walking change N M counts₀ tape start counts (suc (here.range.levels - 1)) here.range.depth here.range.k here.range.n here.change at
     above_walking =
-        subst (λ (x : ℕ). Walking change N M counts₀ tape start counts x range.depth range.k range.n range.change at)
-        (one_more range.levels above) w
+        subst (λ (x : ℕ). Walking change N M counts₀ tape start counts x here.range.depth here.range.k here.range.n here.change at)
+        (one_more here.range.levels above) w
 
-    module _ {c b : ℕ} {v : Visited} (s : Seen M tape counts range.depth range.k range.n range.change at c b v) where
-      pub stop_visit : ((next : ℕ) → v ≢ visited.Pass next)
-          → Stopped change N M counts₀ tape start (record { range = range; visited = v }) counts
-      stop_visit stops =
-          subst (λ (r : Range). Stopped change N M counts₀ tape start (record { range = r; visited = v }) counts)
-          (sym (above_range range above)) (node_stop above_walking s stops)
+    module _ {c b : ℕ} {v : Option Visited} (s : Seen M tape counts here.range.depth here.range.k here.range.n here.change at c b v) where
+      pub stop_visit : (u : Visited) → v ≡ Some u → ((next : ℕ) → u ≢ visited.Pass next)
+          → Stopped change N M counts₀ tape start (record { here = here; visited = u }) counts
+      stop_visit u is stops =
+          subst (λ (r : Walked). Stopped change N M counts₀ tape start (record { here = r; visited = u }) counts)
+          (sym (above_range here above)) (node_stop above_walking s u is stops)
 
-      pub pass : (next after : ℕ) (half : Range) → v ≡ visited.Pass next → after ≡ entries_after range → half ≡ half_of range b
-          → Walking change N M counts₀ tape start (set counts range.k after) half.levels half.depth half.k half.n
+      pub end_visit : v ≡ None → walk_run change N M counts₀ tape start ≡ ended
+      end_visit is = node_ended above_walking s is
+
+      pub pass : (next after : ℕ) (half : Walked) → v ≡ Some (visited.Pass next) → after ≡ entries_after here → half ≡ half_of here b
+          → Walking change N M counts₀ tape start (set counts here.range.k after) half.range.levels half.range.depth half.range.k half.range.n
           half.change next
       unfolding half_of
       pass next after half e ea eh =
           ⊎_elim
-          (λ (h : b < rank_of range.change).
-          rw (ea, eh, if_lt_yes b (rank_of range.change) _ _ h) (pass_right above_walking s next e h))
-          (λ (h : rank_of range.change ≤ b).
-          rw (ea, eh, if_lt_no b (rank_of range.change) _ _ h) (pass_left above_walking s next e h))
-          (lt_or_ge b (rank_of range.change))
+          (λ (h : b < rank_of here.change).
+          rw (ea, eh, if_lt_yes b (rank_of here.change) _ _ h) (pass_right above_walking s next e h))
+          (λ (h : rank_of here.change ≤ b).
+          rw (ea, eh, if_lt_no b (rank_of here.change) _ _ h) (pass_left above_walking s next e h))
+          (lt_or_ge b (rank_of here.change))
 
 -- ---- the end of the walk
 
-module _ {change : Change} {N M : ℕ} {counts₀ tape : List ℕ} {start : ℕ} {stop : Stop} {counts : List ℕ} (p : WalkReady change N M counts₀)
-    (w : Stopped change N M counts₀ tape start stop counts) where
+module _ {change : Change} {N M : ℕ} {counts₀ : List ℕ} (p : WalkReady change N M counts₀) (tape : List ℕ) (start : ℕ) where
   -- the walk ends with a tree that reaches down to the leaves
   ends_perfect : (t : Tree) (next : ℕ) → walk_run change N M counts₀ tape start ≡ ran t next → Perfect (height M) t
   unfolding walk_run
@@ -385,26 +391,33 @@ module _ {change : Change} {N M : ℕ} {counts₀ tape : List ℕ} {start : ℕ}
   unfolding reshape walk_run run_at
   walk_run_lem = run_bind (walk M (height M) 0 change N (root p)) (λ t. done (record { size = M; tree = t })) tape start
 
-  finished : (rest : Ran Tree) (rebuilt : Rebuilt) (counts' : List ℕ)
+  pub walk_ended : (counts' : List ℕ) → walk_run change N M counts₀ tape start ≡ ended
+      → UpdatedAs change N (shape_in counts₀) (run_at (reshape change N (shape_in counts₀) kept) tape start) None (length counts₀) counts'
+  unfolding UpdatedAs after_run
+  walk_ended counts' e = rw (shape_is p, walk_run_lem, e) refl
+
+module _ {change : Change} {N M : ℕ} {counts₀ tape : List ℕ} {start : ℕ} {stop : Stop} {counts : List ℕ} (p : WalkReady change N M counts₀)
+    (w : Stopped change N M counts₀ tape start stop counts) where
+  finished : (rest : Ran Tree) (rebuilt : Option ℕ) (counts' : List ℕ)
       → walk_run change N M counts₀ tape start ≡ after_run rest (λ t next. ran (w.plug t) next)
-      → RebuiltAs rest rebuilt stop.range.k (entries_after stop.range) counts counts'
-      → UpdatedAs change N (whole p) (run_at (reshape change N (whole p) kept) tape start) (rebuilt_to M (part_of stop.range) rebuilt)
+      → RebuiltAs rest rebuilt stop.here.range.k (entries_after stop.here) counts counts'
+      → UpdatedAs change N (whole p) (run_at (reshape change N (whole p) kept) tape start) (rebuilt_to M (part_of stop.here) rebuilt)
       (length counts₀) counts'
   unfolding RebuiltAs UpdatedAs rebuilt_to after_run Confined shape_counts
-  finished (ran t next) rebuilt counts' e h = rw (walk_run_lem, e) (
-    part_of stop.range,
-    ap (rebuilt_to M (part_of stop.range)) h.0,
+  finished (ran t next) rebuilt counts' e h = rw (walk_run_lem p tape start, e) (
+    part_of stop.here,
+    ap (rebuilt_to M (part_of stop.here)) h.0,
     h.1
         ∙ sym (w.written t)
         ∙ ap (λ (c : List ℕ). write_tree c 1 (count_after change N) (w.plug t)) (counts_are p)
         ∙ write_over (height M) (root p) (w.plug t) _ 1 N (count_after change N) (omega arith) (perfect p)
-        (ends_perfect (w.plug t) next e),
+        (ends_perfect p tape start (w.plug t) next e),
     inr (refl, w.within t),
   )
-  finished ended rebuilt counts' e h = rw (walk_run_lem, e) (ap (rebuilt_to M (part_of stop.range)) h)
+  finished ended rebuilt counts' e h = rw (walk_run_lem p tape start, e) (ap (rebuilt_to M (part_of stop.here)) h)
 
-  pub walk_updated : (part : Part) (rebuilt : Rebuilt) (result : Updated) (counts' : List ℕ) → part ≡ part_of stop.range
-      → RebuiltAs (stop_run M tape stop) rebuilt stop.range.k (entries_after stop.range) counts counts'
+  pub walk_updated : (part : Part) (rebuilt : Option ℕ) (result : Option Updated) (counts' : List ℕ) → part ≡ part_of stop.here
+      → RebuiltAs (stop_run M tape stop) rebuilt stop.here.range.k (entries_after stop.here) counts counts'
       → result ≡ rebuilt_to M part rebuilt
       → UpdatedAs change N (shape_in counts₀) (run_at (reshape change N (shape_in counts₀) kept) tape start) result (length counts₀) counts'
   walk_updated part rebuilt result counts' ep h er = rw (er, ep, shape_is p) (finished (stop_run M tape stop) rebuilt counts' w.run h)
@@ -412,43 +425,43 @@ module _ {change : Change} {N M : ℕ} {counts₀ tape : List ℕ} {start : ℕ}
 -- ---- the range where the walk stopped
 
 module _ {M : ℕ} {stop : Stop} {room : ℕ} (w : StopReady M stop room) where
-  pub stop_most : stop.range.n < 2 ^ 62
-  stop_most = omega (arith, w.can.few, count_least stop.range.change stop.range.n)
+  pub stop_most : stop.here.range.n < 2 ^ 62
+  stop_most = omega (arith, w.can.few, count_least stop.here.change stop.here.range.n)
 
-  pub stop_here : stop.range.k < room
+  pub stop_here : stop.here.range.k < room
   stop_here = rebuild_here w.can
 
   pub enter_ready : (into next : ℕ) → stop.visited ≡ visited.Enter into next
-      → RebuildReady M (suc (stop.range.levels - 1)) stop.range.depth stop.range.k (entries_after stop.range) room
-      × IsCandidate (entries_after stop.range) (candidates M stop.range.depth) into
+      → RebuildReady M (suc (stop.here.range.levels - 1)) stop.here.range.depth stop.here.range.k (entries_after stop.here) room
+      × IsCandidate (entries_after stop.here) (candidates M stop.here.range.depth) into
   enter_ready into next e =
       let enters = w.enters into next e in (above_leaves (λ z. omega (arith, enters.0)) w.can, enters.1)
 
 -- ---- the half of a range
 
-module _ (range : Range) (b rank : ℕ) (er : rank ≡ rank_of range.change) where
-  pub half_right : (here : Change) → b < rank → here ≡ at_rank range.change (rank - b)
-      → record { k = 2 * range.k + 1; depth = range.depth + 1; levels = range.levels - 1; n = range.n - b; change = here } ≡ half_of range b
+module _ (here : Walked) (b rank : ℕ) (er : rank ≡ rank_of here.change) where
+  pub half_right : (below : Change) → b < rank → below ≡ at_rank here.change (rank - b)
+      → record { range = record { k = 2 * here.range.k + 1; depth = here.range.depth + 1; levels = here.range.levels - 1; n = here.range.n - b }; change = below } ≡ half_of here b
   unfolding half_of
-  half_right here h e = rw (e, er) (sym (if_lt_yes b (rank_of range.change) _ _ (rw er at h)))
+  half_right below h e = rw (e, er) (sym (if_lt_yes b (rank_of here.change) _ _ (rw er at h)))
 
   pub half_left : rank ≤ b
-      → record { k = 2 * range.k; depth = range.depth + 1; levels = range.levels - 1; n = b; change = range.change } ≡ half_of range b
+      → record { range = record { k = 2 * here.range.k; depth = here.range.depth + 1; levels = here.range.levels - 1; n = b }; change = here.change } ≡ half_of here b
   unfolding half_of
-  half_left h = sym (if_lt_no b (rank_of range.change) _ _ (rw er at h))
+  half_left h = sym (if_lt_no b (rank_of here.change) _ _ (rw er at h))
 
-pub half_lower : (range half : Range) (b : ℕ) → range.levels ≢ 0 → half ≡ half_of range b → half.levels < range.levels
+pub half_lower : (here half : Walked) (b : ℕ) → here.range.levels ≢ 0 → half ≡ half_of here b → half.range.levels < here.range.levels
 unfolding half_of
-half_lower range half b above e =
-    rw e (by_lt (λ (r : Range). r.levels < range.levels) b (rank_of range.change) _ _ (λ h. omega arith) (λ h. omega arith))
+half_lower here half b above e =
+    rw e (by_lt (λ (r : Walked). r.range.levels < here.range.levels) b (rank_of here.change) _ _ (λ h. omega arith) (λ h. omega arith))
 
-half_deeper : (range half : Range) (b : ℕ) → half ≡ half_of range b → half.depth ≡ suc range.depth
+half_deeper : (here half : Walked) (b : ℕ) → half ≡ half_of here b → half.range.depth ≡ suc here.range.depth
 unfolding half_of
-half_deeper range half b e =
-    rw e (by_lt (λ (r : Range). r.depth ≡ suc range.depth) b (rank_of range.change) _ _ (λ h. omega arith) (λ h. omega arith))
+half_deeper here half b e =
+    rw e (by_lt (λ (r : Walked). r.range.depth ≡ suc here.range.depth) b (rank_of here.change) _ _ (λ h. omega arith) (λ h. omega arith))
 
 -- The half where the walk goes on has half as many candidates.
-pub half_counted : (M : ℕ) (range half : Range) (b c : ℕ) {c' : ℕ} → half ≡ half_of range b → c' ≡ half_candidates c → CountedAt M range.depth c
-    → CountedAt M half.depth c'
-half_counted M range half b c e h counted large =
-    h ∙ ap half_candidates (counted large) ∙ sym (candidates_half M range.depth) ∙ sym (ap (candidates M) (half_deeper range half b e))
+pub half_counted : (M : ℕ) (here half : Walked) (b c : ℕ) {c' : ℕ} → half ≡ half_of here b → c' ≡ half_candidates c → CountedAt M here.range.depth c
+    → CountedAt M half.range.depth c'
+half_counted M here half b c e h counted large =
+    h ∙ ap half_candidates (counted large) ∙ sym (candidates_half M here.range.depth) ∙ sym (ap (candidates M) (half_deeper here half b e))

@@ -1,107 +1,78 @@
 // The walk down a tree of balance ranks, where the size parameter is kept: the counts changed by an entry that comes in or goes out.
 #![tactic(auto)]
 
-ghost use Rattle.std.specs.Prelude.{◌≡◌, ◌^◌, ◌<◌, length};
-ghost use Rattle.draw_shares.specs.Tape.{run_at};
+ghost use Rattle.std.specs.Prelude.{◌≡◌, ◌^◌, ◌<◌, length, MatchOption};
+ghost use Rattle.draw_shares.specs.Tape.{ended, run_at};
 ghost use Rattle.tree_rules.specs.Rules as rules;
 ghost use Rattle.tree_counts.specs.Counts.{shape_in};
-ghost use Rattle.tree_counts.specs.Rebuild.{RebuiltAs};
-ghost use Rattle.tree_walk.specs.Updated.{rebuilt_to, UpdatedAs};
-ghost use Rattle.tree_walk.specs.Walk.{CountedAt, entries_after, part_of, HalveReady, half_of, WalkReady, stop_run, StopReady, Stopped};
+ghost use Rattle.tree_counts.specs.Rebuild.{HalveReady, RebuiltAs};
+ghost use Rattle.tree_walk.specs.Updated.{UpdatedAs};
+ghost use Rattle.tree_walk.specs.Walk.{CountedAt, entries_after, range_after, part_of, half_of, WalkReady, walk_run, stop_run, StopReady, Stopped};
 
-use tree_counts::{Part, Rebuilt, rebuild, rebuild_halves};
+use tree_counts::{Part, Range, rebuild, rebuild_halves};
 use tree_rules::Change;
 use tree_sizes::Size;
 use tree_visit::{Visited, visit};
 
-// What a change of the counts comes to: the size parameter, the part to lay out anew and the place of the next word; or the tape ended.
+// What a change of the counts comes to: the size parameter, the part to lay out anew and the place of the next word.
 #[derive(Clone, Copy)]
-pub enum Updated {
-    Done { m: usize, part: Part, next: usize },
-    Ended,
+pub struct Updated {
+    pub m: usize,
+    pub part: Part,
+    pub next: usize,
 }
 
-// What a change comes to where this part was rebuilt and the size parameter is m after it.
-pub fn finish(m: usize, part: Part, rebuilt: Rebuilt) -> Updated
-    ensures { result ≡ rebuilt_to m part rebuilt }
-{
-    match rebuilt {
-        Rebuilt::Done(next) => Updated::Done {
-            m: m,
-            part: part,
-            next: next,
-        },
-        Rebuilt::Ended => Updated::Ended,
-    }
-}
-
-// A range on the walk: its number, its depth, the levels from it to the leaves, its number of entries before the change, and the change
-// to them.
+// A range on the walk, and the change to its entries.
 #[derive(Clone, Copy)]
-struct Range {
-    k: usize,
-    depth: usize,
-    levels: usize,
-    n: usize,
+struct Walked {
+    range: Range,
     change: Change,
 }
 
-impl Range {
-    // Its number of entries after the change.
-    fn after(self) -> usize
-        requires { rules.InReach self.change self.n × (self.n < 2 ^ 62) }
-        ensures { result ≡ entries_after self }
+impl Walked {
+    // The range with its number of entries after the change.
+    fn after(self) -> Range
+        requires { rules.InReach self.change self.range.n × (self.range.n < 2 ^ 62) }
+        ensures { result ≡ range_after self }
     {
-        let change = self.change;
-        tree_counts::count_after(change, self.n)
+        let n = self.change.count_after(self.range.n);
+        Range { n, ..self.range }
     }
 
     // The part that it is.
     fn part(self) -> Part
         ensures { result ≡ part_of self }
     {
-        let change = self.change;
         Part {
-            range: self.k,
-            depth: self.depth,
-            rank: tree_counts::rank_of(change),
+            range: self.range.k,
+            depth: self.range.depth,
+            rank: self.change.rank(),
         }
     }
 
     // Its half that gains or loses the entry, where b is the balance rank.
-    fn half(self, b: usize) -> Range
-        requires { HalveReady self b }
+    fn half(self, b: usize) -> Walked
+        requires { HalveReady self.range b }
         ensures { result ≡ half_of self b }
     {
-        let depth = self.depth + 1;
-        let levels = self.levels - 1;
-        let change = self.change;
-        let rank = tree_counts::rank_of(change);
+        let rank = self.change.rank();
         if b < rank {
-            let below = tree_counts::at_rank(change, rank - b);
-            return Range {
-                k: 2 * self.k + 1,
-                depth: depth,
-                levels: levels,
-                n: self.n - b,
-                change: below,
+            return Walked {
+                range: self.range.right(b),
+                change: self.change.at_rank(rank - b),
             };
         }
-        Range {
-            k: 2 * self.k,
-            depth: depth,
-            levels: levels,
-            n: b,
-            change: change,
+        Walked {
+            range: self.range.left(b),
+            change: self.change,
         }
     }
 }
 
-// The range that the walk stops at, and what its visit gave: it is rebuilt, its halves are, or the tape ended. Where it is passed, a leaf is
-// reached.
+// The range that the walk stops at, and what its visit gave: it is rebuilt, or its halves are. Where it is passed, a leaf is reached.
 #[derive(Clone, Copy)]
 struct Stop {
-    range: Range,
+    here: Walked,
     visited: Visited,
 }
 
@@ -124,60 +95,51 @@ fn descend(
     counts: &mut [u32],
     tape: &[u32],
     start: usize,
-) -> Stop
+) -> Option<Stop>
     requires { WalkReady change n size.m counts.old }
-    ensures { Stopped change n size.m counts.old tape.now start result counts.new }
+    ensures { MatchOption result (walk_run change n size.m counts.old tape.now start ≡ ended)
+        (λ stop. Stopped change n size.m counts.old tape.now start stop counts.new) }
 {
-    let mut range = Range {
+    let range = Range {
         k: 1,
         depth: 0,
         levels: size.height(),
-        n: n,
-        change: change,
+        n,
     };
+    let mut here = Walked { range, change };
     let mut at = start;
     let mut c = root_candidates(size);
-    loop {
-        if range.levels == 0 {
+    let stop = loop {
+        if here.range.levels == 0 {
             let visited = Visited::Pass { next: at };
-            break Stop { range, visited };
+            break Stop { here, visited };
         }
-        let k = range.k;
-        let b = counts[2 * k] as usize;
-        let here = range.change;
-        let visited = visit(here, range.n, c, b, tape, at);
+        let b = counts[2 * here.range.k] as usize;
+        let visited = visit(here.change, here.range.n, c, b, tape, at)?;
         match visited {
             Visited::Pass { next } => at = next,
-            _ => break Stop { range, visited },
+            _ => break Stop { here, visited },
         }
-        counts[k] = range.after() as u32;
-        range = range.half(b);
+        counts[here.range.k] = here.after().n as u32;
+        here = here.half(b);
         c = Size::half_candidates(c);
-    }
+    };
+    Some(stop)
 }
 
 // Rebuilds the range where the walk stopped, or its halves; the count of a leaf is written.
-fn rebuild_at(stop: Stop, size: Size, counts: &mut [u32], tape: &[u32]) -> Rebuilt
+fn rebuild_at(stop: Stop, size: Size, counts: &mut [u32], tape: &[u32]) -> Option<usize>
     requires { StopReady size.m stop (length counts.old) }
-    ensures { RebuiltAs (stop_run size.m tape.now stop) result stop.range.k (entries_after stop.range) counts.old counts.new }
+    ensures { RebuiltAs (stop_run size.m tape.now stop) result stop.here.range.k (entries_after stop.here) counts.old counts.new }
 {
-    let here = stop.range;
-    let n = here.after();
-    let visited = stop.visited;
-    match visited {
+    let range = stop.here.after();
+    match stop.visited {
         Visited::Pass { next } => {
-            let k = here.k;
-            counts[k] = n as u32;
-            Rebuilt::Done(next)
+            counts[range.k] = range.n as u32;
+            Some(next)
         }
-        Visited::Rebuild { next } => {
-            rebuild(size, here.levels, here.depth, here.k, n, counts, tape, next)
-        }
-        Visited::Enter { into, next } => {
-            let lower = here.levels - 1;
-            rebuild_halves(size, lower, here.depth, here.k, n, into, counts, tape, next)
-        }
-        Visited::Ended => Rebuilt::Ended,
+        Visited::Rebuild { next } => rebuild(size, range, counts, tape, next),
+        Visited::Enter { into, next } => rebuild_halves(size, range, into, counts, tape, next),
     }
 }
 
@@ -189,12 +151,15 @@ pub fn walk(
     counts: &mut [u32],
     tape: &[u32],
     at: usize,
-) -> Updated
+) -> Option<Updated>
     requires { WalkReady change n size.m counts.old }
     ensures { UpdatedAs change n (shape_in counts.old) (run_at (rules.reshape change n (shape_in counts.old) rules.kept) tape.now at) result (length counts.old) counts.new }
 {
-    let stop = descend(change, n, size, counts, tape, at);
-    let range = stop.range;
-    let rebuilt = rebuild_at(stop, size, counts, tape);
-    finish(size.m, range.part(), rebuilt)
+    let stop = descend(change, n, size, counts, tape, at)?;
+    let next = rebuild_at(stop, size, counts, tape)?;
+    Some(Updated {
+        m: size.m,
+        part: stop.here.part(),
+        next,
+    })
 }

@@ -1,23 +1,25 @@
 -- `admit_read` meets its contract.
+use mathlib.Core.Path.{◌∙◌}
 use Rattle.call_open.specs.ArgumentLaws.{still_refused, read_first, read_last, read_order, read_short, read_admitted}
+use Rattle.call_open.specs.PassedLaws.{passed_on}
 use Rattle.call_open.proofs.admit_read.Goals as goal
 
-pub returns-then-n-first : goal.returns-then-n-first
-returns-then-n-first c = read_first c.in-Sheet.is _ _ _ c.if-n-first.true
+pub returns-in_err-sheet : goal.returns-in_err-sheet
+returns-in_err-sheet c = passed_on c.from_residual.ensures.1 ∙ still_refused _ c.in_err-sheet.was
 
-pub returns-then-n-last : goal.returns-then-n-last
-returns-then-n-last c = read_last c.in-Sheet.is _ _ _ c.if-n-last.true
+pub returns-then-sheet-first : goal.returns-then-sheet-first
+returns-then-sheet-first c = read_first c.in_ok-sheet.was _ _ _ c.if-sheet-first.true
+
+pub returns-then-sheet-last : goal.returns-then-sheet-last
+returns-then-sheet-last c = read_last c.in_ok-sheet.was _ _ _ c.if-sheet-last.true
 
 pub returns-then-last-first : goal.returns-then-last-first
-returns-then-last-first c = read_order c.in-Sheet.is _ _ _ c.if-last-first.true
+returns-then-last-first c = read_order c.in_ok-sheet.was _ _ _ c.if-last-first.true
 
 pub returns-then-room-last : goal.returns-then-room-last
 returns-then-room-last c =
-    read_short c.in-Sheet.is _ _ _ c.if-n-first.false c.if-n-last.false c.if-last-first.false c.if-room-last.true
+    read_short c.in_ok-sheet.was _ _ _ c.if-sheet-first.false c.if-sheet-last.false c.if-last-first.false c.if-room-last.true
 
-pub returns-else-room-last : goal.returns-else-room-last
-returns-else-room-last c =
-    read_admitted c.in-Sheet.is _ _ _ c.if-n-first.false c.if-n-last.false c.if-last-first.false c.if-room-last.false
-
-pub returns-in-Refused : goal.returns-in-Refused
-returns-in-Refused c = still_refused _ c.in-Refused.is
+pub returns : goal.returns
+returns c =
+    read_admitted c.in_ok-sheet.was _ _ _ c.if-sheet-first.false c.if-sheet-last.false c.if-last-first.false c.if-room-last.false

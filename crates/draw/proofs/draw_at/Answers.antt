@@ -1,7 +1,6 @@
 -- `draw::draw_at` meets its contract. The loop's invariant: the scan from `i` on is the scan from `at` on.
 use mathlib.Core.Path.{sym, ◌∙◌}
 use Prim.Native.Nat.{◌^◌}
-use native.Mathlib.Nat.{mod-le}
 use native.Mathlib.Omega.{arith}
 use Rattle.draw.specs.Draw.{draw_at}
 use Rattle.draw.specs.DrawLaws.{scan_taken, scan_passed, scan_ended, draw_none, draw_one, draw_above, draw_many, word_below, word_above}
@@ -18,9 +17,6 @@ returns-then-m-eq0 c = rw c.if-m-eq0.true (sym (draw_none (2 ^ 32) _ _))
 pub returns-then-m-gt4294967296 : goal.returns-then-m-gt4294967296
 unfolding draw_at
 returns-then-m-gt4294967296 c = sym (draw_above (2 ^ 32) _ _ _ c.if-m-eq1.false c.if-m-gt4294967296.true)
-
-pub overflow_sub-word : goal.overflow_sub-word
-overflow_sub-word c = mod-le _ _
 
 pub returns-then-word-face : goal.returns-then-word-face
 unfolding draw_at

@@ -4,10 +4,11 @@ use Rattle.call_outcomes.specs.Causes.{decision}
 use Rattle.call_outcomes.specs.PlainCalls.{plain_change, change_cause, changing}
 use Rattle.call_outcomes.specs.Plain.{plain, plain_store_of}
 use Rattle.call_outcomes.specs.Federation.{federation}
-use Rattle.call_open.specs.declared.Opened.TheVariants.{Sheet}
+use Rattle.std.specs.Prelude.{Some, Ok}
 use Rattle.call_open.specs.Opening.{opened_as}
 use Rattle.call_open.specs.AdmittedLaws.{found_sheet, change_opened, call_admitted, call_refused}
-use Rattle.federation_calls.proofs.make_change.Goals.{After-admit_change, In-Sheet}
+use Rattle.call_open.specs.PassedLaws.{passed_on, some_of, none_of}
+use Rattle.federation_calls.proofs.make_change.Goals.{After-admit_change, In_ok-made, In_ok-sheet}
 use Rattle.federation_calls.proofs.make_change.Goals as goal
 
 -- What is left of the look at the store decides the call.
@@ -20,26 +21,35 @@ left c =
     change_opened (plain federation) _ c.examine-opened.ensures.opening.found (change_cause 65536 made) made (λ list. refl) c.admit_change.ensures
 
 -- A sheet was found.
-found : (c : In-Sheet) → c.examine-opened.result ≡ Sheet c.in-Sheet.n c.in-Sheet.m
-found c = found_sheet _ _ (sym c.admit_change.ensures ∙ c.in-Sheet.is)
+found : (c : In_ok-sheet) → c.examine-opened.result ≡ Ok c.in_ok-sheet.sheet
+found c = found_sheet _ _ (sym c.admit_change.ensures ∙ c.in_ok-sheet.was)
 
 pub examine-opened-requires : goal.examine-opened-requires
 examine-opened-requires c =
     record { work = refl; numbers = refl }
 
-pub make-made-requires : goal.make-made-requires
-make-made-requires c =
+pub make-requires : goal.make-requires
+make-requires c =
     let w = c.examine-opened.ensures in record {
       sheet = record {
-        admitted = call_admitted _ _ _ (left (goal.at.make-made-requires c).After-admit_change) c.in-Sheet.is;
-        copied = w.opening.copied (found (goal.at.make-made-requires c).In-Sheet);
+        admitted = call_admitted _ _ _ (left (goal.at.make-requires c).After-admit_change) c.in_ok-sheet.was;
+        copied = w.opening.copied (found (goal.at.make-requires c).In_ok-sheet);
       };
-      tallied = w.tallied (found (goal.at.make-made-requires c).In-Sheet);
+      tallied = w.tallied (found (goal.at.make-requires c).In_ok-sheet);
     }
 
-pub returns-in-Sheet : goal.returns-in-Sheet
-returns-in-Sheet c = rw c.answer.ensures c.make-made.ensures.0
+-- What became of the change.
+made : (c : In_ok-made) → c.make.result ≡ Some c.in_ok-made.made
+made c = some_of _ _ c.ok_or.ensures.value c.in_ok-made.was
 
-pub returns-in-Refused : goal.returns-in-Refused
-returns-in-Refused c =
-    call_refused _ _ _ (left (goal.at.returns-in-Refused c).After-admit_change) _ _ c.in-Refused.is
+pub returns-in_err-sheet : goal.returns-in_err-sheet
+returns-in_err-sheet c =
+    rw (passed_on c.from_residual.ensures.1) (call_refused _ _ _ (left (goal.at.returns-in_err-sheet c).After-admit_change) _ _ c.in_err-sheet.was)
+
+pub returns-in_err-made : goal.returns-in_err-made
+returns-in_err-made c =
+    let ended = none_of c.make.result _ c.ok_or.ensures.value c.in_err-made.was in
+    rw (passed_on c.from_residual-in_err-made.ensures.1, ended.1) (rw ended.0 at c.make.ensures.0)
+
+pub returns : goal.returns
+returns c = rw (made (goal.at.returns c).In_ok-made) at c.make.ensures.0

@@ -18,22 +18,22 @@ update-requires c = update_ready federation_ready (sheet_ready federation_ready 
 
 pub write_drawn-requires : goal.write_drawn-requires
 write_drawn-requires c =
-    let p = sheet_ready federation_ready c.requires.sheet in record { ready = write_ready federation_ready p _ _ _ c.update.ensures _ _ _ c.in-Done.is; most = before_few federation_ready p _ _ _ c.update.ensures _ _ _ c.in-Done.is }
+    let p = sheet_ready federation_ready c.requires.sheet in record { ready = write_ready federation_ready p _ _ _ c.update.ensures _ _ _ c.in_ok-updated.was; most = before_few federation_ready p _ _ _ c.update.ensures _ _ _ c.in_ok-updated.was }
 
 pub write_tallies-requires : goal.write_tallies-requires
 write_tallies-requires c =
-    let after = tallies_after federation_ready c.requires.sheet _ _ _ c.update.ensures _ _ _ c.in-Done.is c.write_drawn.ensures c.requires.tallied in
+    let after = tallies_after federation_ready c.requires.sheet _ _ _ c.update.ensures _ _ _ c.in_ok-updated.was c.write_drawn.ensures c.requires.tallied in
     record { ready = after.ready; lengths = ap length c.requires.tallied ∙ length_number_order _ _; part = after.part; counted = after.counted }
 
-pub returns-in-Done : goal.returns-in-Done
-returns-in-Done c =
+pub returns : goal.returns
+returns c =
     let p = c.requires.sheet in (
-      plain_made_by_slots federation_ready p _ _ _ c.update.ensures _ _ _ c.in-Done.is c.write_drawn.ensures _ c.count_after-after.ensures
+      plain_made_by_slots federation_ready p _ _ _ c.update.ensures _ _ _ c.in_ok-updated.was c.write_drawn.ensures _ c.count_after-after.ensures
           c.write_tallies.ensures,
-      part_made federation_ready p _ _ _ c.update.ensures _ _ _ c.in-Done.is c.write_drawn.ensures,
+      part_made federation_ready p _ _ _ c.update.ensures _ _ _ c.in_ok-updated.was c.write_drawn.ensures,
     )
 
-pub returns-in-Ended : goal.returns-in-Ended
-returns-in-Ended c =
+pub returns-in_err-updated : goal.returns-in_err-updated
+returns-in_err-updated c =
     let p = c.requires.sheet in
-    (plain_ended federation_ready p _ (change_ended federation_ready (sheet_ready federation_ready p) _ _ _ c.update.ensures c.in-Ended.is), tt)
+    rw c.from_residual.ensures (plain_ended federation_ready p _ (change_ended federation_ready (sheet_ready federation_ready p) _ _ _ c.update.ensures c.in_err-updated.was), tt)

@@ -4,29 +4,30 @@ use Rattle.tree_rules.specs.declared.Change.TheVariants.{Delete}
 use Rattle.call_outcomes.specs.Causes.{accept, decision}
 use Rattle.call_outcomes.specs.Federation.{federation}
 use Rattle.call_outcomes.proofs.FederationLaws.{federation_ready}
-use Rattle.call_open.specs.declared.Opened.TheVariants.{Sheet}
+use Rattle.std.specs.Prelude.{Ok}
 use Rattle.call_open.specs.Opening.{OpenedStore}
 use Rattle.call_open.specs.AdmittedLaws.{opened_store, found_sheet, found_free, call_refused}
+use Rattle.call_open.specs.PassedLaws.{passed_on}
 use Rattle.call_timed.specs.Timed.{timed_view, delete_rank, timed, delete, timed_store_of, timed_numbers}
 use Rattle.timed_answers.specs.EntryLaws.{change_ready, change_done, delete_decided, delete_opened, delete_plainly}
-use Rattle.federation_timed_changes.proofs.delete.Goals.{In-Sheet}
+use Rattle.federation_timed_changes.proofs.delete.Goals.{In_ok-sheet}
 use Rattle.federation_timed_changes.proofs.delete.Goals as goal
 
 -- The store is a timed sheet with these numbers.
-found : (c : In-Sheet) → c.examine-opened.result ≡ Sheet c.in-Sheet.n c.in-Sheet.m
-found c = found_sheet _ _ (sym c.admit_rank.ensures ∙ c.in-Sheet.is)
+found : (c : In_ok-sheet) → c.examine-opened.result ≡ Ok c.in_ok-sheet.sheet
+found c = found_sheet _ _ (sym c.admit_rank.ensures ∙ c.in_ok-sheet.was)
 
-sheet : (c : In-Sheet)
+sheet : (c : In_ok-sheet)
     → let a = c.args in
-    OpenedStore (timed_view federation) timed_numbers (timed_store_of a.slots.now a.counts.now a.tallies.now a.balance.now) c.in-Sheet.n
-    c.in-Sheet.m c.examine-opened.new.work
-sheet c = opened_store (timed_view federation) timed_numbers _ c.examine-opened.ensures.opening _ _ (found c)
+    OpenedStore (timed_view federation) timed_numbers (timed_store_of a.slots.now a.counts.now a.tallies.now a.balance.now) c.in_ok-sheet.sheet.n
+    c.in_ok-sheet.sheet.m c.examine-opened.new.work
+sheet c = opened_store (timed_view federation) timed_numbers _ c.examine-opened.ensures.opening _ (found c)
 
 -- No cause before 7 refuses the delete.
-decided : (c : In-Sheet)
+decided : (c : In_ok-sheet)
     → let a = c.args in
     decision (timed federation) (delete a.rank) (timed_store_of a.slots.now a.counts.now a.tallies.now a.balance.now) ≡ accept (sheet c).contents
-decided c = delete_decided federation_ready (sheet c) _ (found_free _ _ (sym c.admit_rank.ensures ∙ c.in-Sheet.is))
+decided c = delete_decided federation_ready (sheet c) _ (found_free _ _ (sym c.admit_rank.ensures ∙ c.in_ok-sheet.was))
 
 pub examine-opened-requires : goal.examine-opened-requires
 examine-opened-requires c =
@@ -34,12 +35,12 @@ examine-opened-requires c =
 
 pub change-requires : goal.change-requires
 change-requires c =
-    record { sheet = change_ready federation_ready (sheet (goal.at.change-requires c).In-Sheet) (delete_rank _) (Delete _) 0 (delete_plainly _ _) (decided (goal.at.change-requires c).In-Sheet); tallied = c.examine-opened.ensures.tallied (found (goal.at.change-requires c).In-Sheet) }
+    record { sheet = change_ready federation_ready (sheet (goal.at.change-requires c).In_ok-sheet) (delete_rank _) (Delete _) 0 (delete_plainly _ _) (decided (goal.at.change-requires c).In_ok-sheet); tallied = c.examine-opened.ensures.tallied (found (goal.at.change-requires c).In_ok-sheet) }
 
-pub returns-in-Sheet : goal.returns-in-Sheet
-returns-in-Sheet c =
-    change_done federation_ready (sheet (goal.at.returns-in-Sheet c).In-Sheet) (delete_rank _) (Delete _) 0 (delete_plainly _ _) (decided (goal.at.returns-in-Sheet c).In-Sheet) _ c.change.ensures
+pub returns : goal.returns
+returns c =
+    change_done federation_ready (sheet (goal.at.returns c).In_ok-sheet) (delete_rank _) (Delete _) 0 (delete_plainly _ _) (decided (goal.at.returns c).In_ok-sheet) _ c.change.ensures
 
-pub returns-in-Refused : goal.returns-in-Refused
-returns-in-Refused c =
-    call_refused (timed federation) (delete _) _ (delete_opened federation _ _ c.examine-opened.ensures.opening.found c.admit_rank.ensures) _ _ c.in-Refused.is
+pub returns-in_err-sheet : goal.returns-in_err-sheet
+returns-in_err-sheet c =
+    rw (passed_on c.from_residual.ensures.1) (call_refused (timed federation) (delete _) _ (delete_opened federation _ _ c.examine-opened.ensures.opening.found c.admit_rank.ensures) _ _ c.in_err-sheet.was)

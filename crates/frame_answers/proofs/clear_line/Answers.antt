@@ -4,4 +4,4 @@ use Rattle.frame_answers.proofs.clear_line.Goals as goal
 
 pub returns : goal.returns
 returns c =
-    clear_gives c.clear.ensures c.returned-back.ensures c.answer.ensures
+    clear_gives c.clear.ensures c.from-back.ensures c.answer.ensures

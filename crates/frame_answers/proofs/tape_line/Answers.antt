@@ -5,7 +5,7 @@ use Rattle.frame_answers.proofs.tape_line.Goals as goal
 
 pub returns-then-tape-waiting : goal.returns-then-tape-waiting
 returns-then-tape-waiting c =
-    taped_full _ _ _ _ _ _ _ (omega (arith, c.if-tape-waiting.true, c.requires.tape)) (rw c.number-full.ensures at c.answer-refused.ensures)
+    taped_full _ _ _ _ _ _ _ (omega (arith, c.if-tape-waiting.true, c.requires.tape)) (rw c.from-full.ensures at c.answer-refused.ensures)
 
 pub returns : goal.returns
 returns c =

@@ -10,9 +10,9 @@ slice_bounds-make_change-end-2 c = sym (length-take-le _ _ (search rules))
 
 pub change_answer-requires : goal.change_answer-requires
 change_answer-requires c =
-    record { words = words_waiting c.args.change c.args.entry _ _ _ _ _ _ _ _ c.make_change.ensures c.returned-back.ensures c.requires.waiting; waiting = c.requires.waiting; room = c.requires.room }
+    record { words = words_waiting c.args.change c.args.entry _ _ _ _ _ _ _ _ c.make_change.ensures c.from-back.ensures c.requires.waiting; waiting = c.requires.waiting; room = c.requires.room }
 
 pub returns : goal.returns
 returns c =
     let given = c.args in
-    changed_gives given.change given.entry _ _ _ _ _ _ _ _ c.make_change.ensures c.returned-back.ensures _ c.change_answer.ensures
+    changed_gives given.change given.entry _ _ _ _ _ _ _ _ c.make_change.ensures c.from-back.ensures _ c.change_answer.ensures

@@ -1,34 +1,26 @@
--- `hex_value` meets its contract: the tests are those of the definition.
-use mathlib.Core.Path.{sym, ◌∙◌}
-use Rattle.base.specs.CaseLaws.{if_lt_yes, if_lt_no}
+-- `hex_value` meets its contract: the ranges are those of the definition.
+use Rattle.std.proofs.Common.{arith}
+use Rattle.std.proofs.lemmas.Bool.Decides.{nat_tests}
+use Rattle.base.specs.Cases.{if_lt}
 use Rattle.frame_lines.specs.Frame.{hex_value}
 use Rattle.frame_lines.proofs.hex_value.Goals as goal
 
-pub returns-then-b-lt48 : goal.returns-then-b-lt48
-unfolding hex_value
-returns-then-b-lt48 c = sym (if_lt_yes _ 48 _ _ c.if-b-lt48.true)
+pub returns-in-48-to-57 : goal.returns-in-48-to-57
+unfolding hex_value if_lt
+returns-in-48-to-57 c = grind (arith, nat_tests)
 
-pub returns-then-b-lt58 : goal.returns-then-b-lt58
-unfolding hex_value
-returns-then-b-lt58 c = sym (if_lt_no _ 48 _ _ c.if-b-lt48.false ∙ if_lt_yes _ 58 _ _ c.if-b-lt58.true)
+pub returns-in-65-to-70 : goal.returns-in-65-to-70
+unfolding hex_value if_lt
+returns-in-65-to-70 c = grind (arith, nat_tests)
 
-pub returns-then-b-lt65 : goal.returns-then-b-lt65
-unfolding hex_value
-returns-then-b-lt65 c =
-    sym (if_lt_no _ 48 _ _ c.if-b-lt48.false ∙ if_lt_no _ 58 _ _ c.if-b-lt58.false ∙ if_lt_yes _ 65 _ _ c.if-b-lt65.true)
+pub returns-in_default : goal.returns-in_default
+unfolding hex_value if_lt
+returns-in_default c = grind (arith, nat_tests)
 
-pub returns-then-b-lt71 : goal.returns-then-b-lt71
-unfolding hex_value
-returns-then-b-lt71 c =
-    sym (if_lt_no _ 48 _ _ c.if-b-lt48.false
-    ∙ if_lt_no _ 58 _ _ c.if-b-lt58.false
-    ∙ if_lt_no _ 65 _ _ c.if-b-lt65.false
-    ∙ if_lt_yes _ 71 _ _ c.if-b-lt71.true)
+pub returns-in_default-2 : goal.returns-in_default-2
+unfolding hex_value if_lt
+returns-in_default-2 c = grind (arith, nat_tests)
 
-pub returns : goal.returns
-unfolding hex_value
-returns c =
-    sym (if_lt_no _ 48 _ _ c.if-b-lt48.false
-    ∙ if_lt_no _ 58 _ _ c.if-b-lt58.false
-    ∙ if_lt_no _ 65 _ _ c.if-b-lt65.false
-    ∙ if_lt_no _ 71 _ _ c.if-b-lt71.false)
+pub returns-in_default-3 : goal.returns-in_default-3
+unfolding hex_value if_lt
+returns-in_default-3 c = grind (arith, nat_tests)

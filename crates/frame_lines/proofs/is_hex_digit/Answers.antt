@@ -1,23 +1,26 @@
--- `is_hex_digit` meets its contract: the tests are those of the definition.
-use mathlib.Core.Path.{sym, ◌∙◌}
-use Rattle.base.specs.CaseLaws.{if_lt_yes, if_lt_no}
+-- `is_hex_digit` meets its contract: the ranges are those of the definition.
+use Rattle.std.proofs.Common.{arith}
+use Rattle.std.proofs.lemmas.Bool.Decides.{nat_tests}
+use Rattle.base.specs.Cases.{if_lt}
 use Rattle.frame_lines.specs.Frame.{is_hex_digit}
 use Rattle.frame_lines.proofs.is_hex_digit.Goals as goal
 
-pub returns-then-b-lt48 : goal.returns-then-b-lt48
-unfolding is_hex_digit
-returns-then-b-lt48 c = sym (if_lt_yes _ 48 _ _ c.if-b-lt48.true)
+pub returns-in-48-to-57 : goal.returns-in-48-to-57
+unfolding is_hex_digit if_lt
+returns-in-48-to-57 c = grind (arith, nat_tests)
 
-pub returns-then-b-lt58 : goal.returns-then-b-lt58
-unfolding is_hex_digit
-returns-then-b-lt58 c = sym (if_lt_no _ 48 _ _ c.if-b-lt48.false ∙ if_lt_yes _ 58 _ _ c.if-b-lt58.true)
+pub returns-in-48-to-57-2 : goal.returns-in-48-to-57-2
+unfolding is_hex_digit if_lt
+returns-in-48-to-57-2 c = grind (arith, nat_tests)
 
-pub returns-then-b-lt65 : goal.returns-then-b-lt65
-unfolding is_hex_digit
-returns-then-b-lt65 c =
-    sym (if_lt_no _ 48 _ _ c.if-b-lt48.false ∙ if_lt_no _ 58 _ _ c.if-b-lt58.false ∙ if_lt_yes _ 65 _ _ c.if-b-lt65.true)
+pub returns-in_default : goal.returns-in_default
+unfolding is_hex_digit if_lt
+returns-in_default c = grind (arith, nat_tests)
 
-pub returns : goal.returns
-unfolding is_hex_digit
-returns c =
-    sym (if_lt_no _ 48 _ _ c.if-b-lt48.false ∙ if_lt_no _ 58 _ _ c.if-b-lt58.false ∙ if_lt_no _ 65 _ _ c.if-b-lt65.false)
+pub returns-in_default-2 : goal.returns-in_default-2
+unfolding is_hex_digit if_lt
+returns-in_default-2 c = grind (arith, nat_tests)
+
+pub returns-in_default-3 : goal.returns-in_default-3
+unfolding is_hex_digit if_lt
+returns-in_default-3 c = grind (arith, nat_tests)

@@ -1,22 +1,16 @@
--- `is_hex_line` meets its contract. The loop's invariant: the line is digits where it is digits from `i` on.
-use mathlib.Core.Path.{sym, ◌∙◌}
-use native.Mathlib.Omega.{arith}
-use Rattle.frame_lines.specs.FrameLaws.{hex_step, hex_other, hex_past, line_odd, line_even}
+-- `is_hex_line` meets its contract: the two tests are those of the definition.
+use Rattle.std.proofs.Common.{rules, tests, arith}
+use Rattle.std.proofs.lemmas.Bool.Decides.{nat_tests}
+use Rattle.std.proofs.lemmas.Iterator.{YieldsList-from_slice}
+use Rattle.std.proofs.lemmas.Iterator.Search.{all_from_yields_List}
+use Rattle.frame_lines.specs.Frame.{is_hex_digit, all_hex, is_hex_line}
 use Rattle.frame_lines.proofs.is_hex_line.Goals as goal
 
-pub returns-then-line-ne0 : goal.returns-then-line-ne0
-returns-then-line-ne0 c = sym (line_odd _ c.if-line-ne0.true)
+pub returns-then-line-eq0 : goal.returns-then-line-eq0
+unfolding is_hex_line all_hex
+returns-then-line-eq0 c =
+    rw (c.if-line-eq0.true) (all_from_yields_List is_hex_digit _ _ _ c.all.ensures.ran (YieldsList-from_slice c.args.line.now cc) (λ x b q k. search (rules, tests)))
 
-pub loop-i-init : goal.loop-i-init
-loop-i-init c = (line_even _ c.if-line-ne0.false, omega arith)
-
-pub returns-then-not-is_hex_digit : goal.returns-then-not-is_hex_digit
-returns-then-not-is_hex_digit c =
-    sym (c.loop-i.invariant.0 ∙ hex_other _ _ c.loop-i-test.true (sym c.is_hex_digit.ensures ∙ c.if-not-is_hex_digit.true))
-
-pub loop-i-preserved : goal.loop-i-preserved
-loop-i-preserved c =
-    (c.loop-i.invariant.0 ∙ hex_step _ _ c.loop-i-test.true (sym c.is_hex_digit.ensures ∙ c.if-not-is_hex_digit.false), omega arith)
-
-pub returns : goal.returns
-returns c = sym (c.loop-i.invariant.0 ∙ hex_past _ _ c.loop-i-test.false)
+pub returns-else-line-eq0 : goal.returns-else-line-eq0
+unfolding is_hex_line
+returns-else-line-eq0 c = grind (arith, nat_tests)

@@ -1,4 +1,6 @@
 -- `read` meets its contract: the line has 10 digits, and each number is the digits of its field.
+use Prim.Native.Nat.{ℕ}
+use Rattle.std.specs.Prelude.{Some}
 use mathlib.Core.Path.{sym, ap₂, ◌∙◌}
 use Rattle.frame_lines.specs.declared.Frame.TheVariants.{Read}
 use Rattle.frame_lines.specs.Frame.{read_of}
@@ -11,4 +13,4 @@ returns-then-line-ne10 c = sym (length_other _ 10 _ c.if-line-ne10.true)
 
 pub returns : goal.returns
 unfolding read_of
-returns c = ap₂ Read c.number-first.ensures c.number-last.ensures ∙ sym (length_is _ 10 _ c.if-line-ne10.false)
+returns c = ap₂ (λ (f l : ℕ). Some (Read f l)) c.number-first.ensures c.number-last.ensures ∙ sym (length_is _ 10 _ c.if-line-ne10.false)

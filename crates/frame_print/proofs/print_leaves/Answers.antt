@@ -1,4 +1,4 @@
--- `print_leaves` meets its contract. The loop's invariant: the first j leaves are written.
+-- `print_leaves` meets its contract.
 use borrow.Author.Rules.{rules}
 use Prim.Native.Nat.{suc, ◌≤◌}
 use native.Mathlib.Omega.{arith}

@@ -1,13 +1,14 @@
 -- `hex_digit` meets its contract.
-use mathlib.Core.Path.{sym}
-use Rattle.base.specs.CaseLaws.{if_lt_yes, if_lt_no}
+use Rattle.std.proofs.Common.{arith}
+use Rattle.std.proofs.lemmas.Bool.Decides.{nat_tests}
+use Rattle.base.specs.Cases.{if_lt}
 use Rattle.frame_replies.specs.Reply.{hex_digit}
 use Rattle.frame_replies.proofs.hex_digit.Goals as goal
 
 pub returns-then-v-lt10 : goal.returns-then-v-lt10
-unfolding hex_digit
-returns-then-v-lt10 c = sym (if_lt_yes _ 10 _ _ c.if-v-lt10.true)
+unfolding hex_digit if_lt
+returns-then-v-lt10 c = grind (arith, nat_tests)
 
-pub returns : goal.returns
-unfolding hex_digit
-returns c = sym (if_lt_no _ 10 _ _ c.if-v-lt10.false)
+pub returns-else-v-lt10 : goal.returns-else-v-lt10
+unfolding hex_digit if_lt
+returns-else-v-lt10 c = grind (arith, nat_tests)

@@ -1,13 +1,7 @@
--- `put_digits` meets its contract. The loop's invariant: all but the first `left` digits are written, and `rest` is the number without them.
-use native.Mathlib.Omega.{arith}
-use Rattle.frame_replies.specs.DigitLaws.{digits_start, digits_next, digits_done}
+-- `put_digits` meets its contract.
+use Rattle.std.proofs.Common.{arith}
+use Rattle.frame_replies.specs.DigitLaws.{digits_next, digits_done}
 use Rattle.frame_replies.proofs.put_digits.Goals as goal
-
-pub loop-left-init : goal.loop-left-init
-loop-left-init c = digits_start _ _ _ _ c.requires
-
-pub hex_digit-requires : goal.hex_digit-requires
-hex_digit-requires c = omega arith
 
 pub loop-left-preserved : goal.loop-left-preserved
 loop-left-preserved c =

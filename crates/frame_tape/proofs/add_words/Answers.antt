@@ -1,4 +1,4 @@
--- `add_words` meets its contract. The loop's invariant: the first k words of the line stand behind those that wait.
+-- `add_words` meets its contract.
 use native.Mathlib.Omega.{arith}
 use borrow.Author.Rules.{rules}
 use Rattle.store_slices.specs.PastedLaws.{pasted_none}

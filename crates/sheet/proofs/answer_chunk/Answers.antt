@@ -1,5 +1,5 @@
 -- `answer_chunk`: each turn of the loop goes on from what was reached, and at the end of the chunk nothing of it is left.
-use Rattle.std.proofs.Common.{rules, ◌≡◌, length, take, length-take-le}
+use Rattle.std.proofs.Common.{rules}
 use Rattle.frame_chunks.specs.ChunkLaws.{held_within, end_more, end_there}
 use Rattle.sheet.proofs.answer_chunk.Goals as goal
 
@@ -11,6 +11,5 @@ loop-from-preserved g c =
 
 pub returns : goal.returns
 returns g c =
-    let size : length (take c.args.n c.args.input.now) ≡ c.args.n = length-take-le _ _ c.requires.chunk in
     let i = c.loop-from.invariant in
-    ((i.0, i.1), λ e. end_there _ _ i.2 (rw size c.loop-from-test.false))
+    ((i.0, i.1), end_there _ _ i.2 c.loop-from-test.false)

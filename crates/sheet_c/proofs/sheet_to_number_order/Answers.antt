@@ -7,4 +7,4 @@ returns-then-answer-lt2 c = conversion_short _ _ _ c.if-answer-lt2.true
 
 pub returns : goal.returns
 returns c =
-    conversion_handed _ _ _ c.if-answer-lt2.false c.to_number_order.ensures c.returned.ensures c.hand.ensures
+    conversion_handed _ _ _ c.if-answer-lt2.false c.to_number_order.ensures c.into.ensures c.hand.ensures

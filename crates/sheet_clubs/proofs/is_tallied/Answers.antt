@@ -16,15 +16,15 @@ none_retired-requires c =
 
 pub returns-then-not-none_retired : goal.returns-then-not-none_retired
 returns-then-not-none_retired c =
-    tested_out clubs_ready c.requires.sheet c.args.tallies.now c.if-root-n.true
+    tested_out clubs_ready c.requires.sheet c.args.tallies.now c.if-root-sheet.true
     (rw (← c.slots.ensures) (sym c.none_retired.ensures ∙ c.if-not-none_retired.true))
 
 pub are_counts-requires : goal.are_counts-requires
 are_counts-requires c =
     record { lengths = c.requires.tallies ∙ sym (counts_number clubs_ready c.requires.sheet); some = omega (arith, c.requires.tallies) }
 
-pub returns-then-root-n : goal.returns-then-root-n
-returns-then-root-n c =
+pub returns-then-root-sheet : goal.returns-then-root-sheet
+returns-then-root-sheet c =
     tested_by_counts clubs_ready c.requires.sheet c.args.tallies.now
     (rw (← c.slots.ensures) (sym c.none_retired.ensures ∙ c.if-not-none_retired.false)) c.are_counts.ensures
 

@@ -12,9 +12,10 @@ use Rattle.call_outcomes.proofs.ClubsLaws.{clubs_ready}
 use Rattle.call_open.specs.Opening.{Opening, OpenedStore}
 use Rattle.call_open.specs.AdmittedLaws.{opened_store, plain_decoded, opened_sheet}
 use Rattle.call_open.specs.SliceOpeningLaws.{look_refused, look_not, look_sheet}
+use Rattle.call_open.specs.PassedLaws.{passed_on}
 use Rattle.sheet_open.specs.LengthLaws.{lengths_tested}
 use Rattle.sheet_open.specs.PlainOpeningLaws.{plain_wrong}
-use Rattle.sheet_clubs.proofs.open.Goals.{After-examine, After-right_lengths, Else-not-right_lengths, In-Sheet}
+use Rattle.sheet_clubs.proofs.open.Goals.{After-examine, After-right_lengths, Else-not-right_lengths, In_ok-sheet}
 use Rattle.sheet_clubs.proofs.open.Goals as goal
 
 -- The test of the lengths is that of the clubs' store.
@@ -32,9 +33,9 @@ found : (c : After-examine) → let a = c.args in
     Opening (untallied_view clubs) numbered (store_of a.slots.now a.counts.now) c.examine.result c.examine.new.work
 found c = rw (c.capacity-2.ensures, c.widen.ensures) at c.examine.ensures
 
-sheet : (c : In-Sheet) → let a = c.args in
-    OpenedStore (untallied_view clubs) numbered (store_of a.slots.now a.counts.now) c.in-Sheet.n c.in-Sheet.m c.examine.new.work
-sheet c = opened_store (untallied_view clubs) numbered _ (found (goal.at.In-Sheet c).After-examine) _ _ c.in-Sheet.is
+sheet : (c : In_ok-sheet) → let a = c.args in
+    OpenedStore (untallied_view clubs) numbered (store_of a.slots.now a.counts.now) c.in_ok-sheet.sheet.n c.in_ok-sheet.sheet.m c.examine.new.work
+sheet c = opened_store (untallied_view clubs) numbered _ (found (goal.at.In_ok-sheet c).After-examine) _ c.in_ok-sheet.was
 
 pub returns-then-not-right_lengths : goal.returns-then-not-right_lengths
 returns-then-not-right_lengths c = (
@@ -51,27 +52,28 @@ examine-requires c =
 
 pub is_tallied-requires : goal.is_tallied-requires
 is_tallied-requires c =
-    record { sheet = opened_sheet clubs _ (rw c.capacity-2.ensures at c.examine.ensures) _ _ c.in-Sheet.is; tallies = (right (goal.at.is_tallied-requires c).Else-not-right_lengths).tallies }
+    record { sheet = opened_sheet clubs _ (rw c.capacity-2.ensures at c.examine.ensures) _ c.in_ok-sheet.was; tallies = (right (goal.at.is_tallied-requires c).Else-not-right_lengths).tallies }
 
 pub returns-then-not-is_tallied : goal.returns-then-not-is_tallied
 returns-then-not-is_tallied c =
     let a = c.args in (
-      look_not (untallied_view clubs) (tally_slice clubs) numbered (plain_store_of a.slots.now a.counts.now a.tallies.now) _ (right (goal.at.returns-then-not-is_tallied c).Else-not-right_lengths).tallies (sheet (goal.at.returns-then-not-is_tallied c).In-Sheet)
-          (sym ((rw c.widen.ensures at c.is_tallied.ensures) (sheet (goal.at.returns-then-not-is_tallied c).In-Sheet).contents (plain_decoded clubs _ (sheet (goal.at.returns-then-not-is_tallied c).In-Sheet).contents (sheet (goal.at.returns-then-not-is_tallied c).In-Sheet).decided)) ∙ c.if-not-is_tallied.true),
+      look_not (untallied_view clubs) (tally_slice clubs) numbered (plain_store_of a.slots.now a.counts.now a.tallies.now) _ (right (goal.at.returns-then-not-is_tallied c).Else-not-right_lengths).tallies (sheet (goal.at.returns-then-not-is_tallied c).In_ok-sheet)
+          (sym ((rw c.widen.ensures at c.is_tallied.ensures) (sheet (goal.at.returns-then-not-is_tallied c).In_ok-sheet).contents (plain_decoded clubs _ (sheet (goal.at.returns-then-not-is_tallied c).In_ok-sheet).contents (sheet (goal.at.returns-then-not-is_tallied c).In_ok-sheet).decided)) ∙ c.if-not-is_tallied.true),
       record { same = λ e. c.widen.ensures },
     )
 
-pub returns-else-not-is_tallied : goal.returns-else-not-is_tallied
-returns-else-not-is_tallied c =
+pub returns : goal.returns
+returns c =
     let a = c.args in (
-      look_sheet (untallied_view clubs) (tally_slice clubs) numbered (plain_store_of a.slots.now a.counts.now a.tallies.now) _ (right (goal.at.returns-else-not-is_tallied c).Else-not-right_lengths).tallies (sheet (goal.at.returns-else-not-is_tallied c).In-Sheet)
-          (sym ((rw c.widen.ensures at c.is_tallied.ensures) (sheet (goal.at.returns-else-not-is_tallied c).In-Sheet).contents (plain_decoded clubs _ (sheet (goal.at.returns-else-not-is_tallied c).In-Sheet).contents (sheet (goal.at.returns-else-not-is_tallied c).In-Sheet).decided)) ∙ c.if-not-is_tallied.false),
+      look_sheet (untallied_view clubs) (tally_slice clubs) numbered (plain_store_of a.slots.now a.counts.now a.tallies.now) _ (right (goal.at.returns c).Else-not-right_lengths).tallies (sheet (goal.at.returns c).In_ok-sheet)
+          (sym ((rw c.widen.ensures at c.is_tallied.ensures) (sheet (goal.at.returns c).In_ok-sheet).contents (plain_decoded clubs _ (sheet (goal.at.returns c).In_ok-sheet).contents (sheet (goal.at.returns c).In_ok-sheet).decided)) ∙ c.if-not-is_tallied.false),
       record { same = λ e. c.widen.ensures },
     )
 
-pub returns-in-Refused : goal.returns-in-Refused
-returns-in-Refused c =
-    let a = c.args in (
-      look_refused (untallied_view clubs) (tally_slice clubs) numbered (plain_store_of a.slots.now a.counts.now a.tallies.now) _ (right (goal.at.returns-in-Refused c).Else-not-right_lengths).tallies (found (goal.at.returns-in-Refused c).After-examine) c.in-Refused.is,
+pub returns-in_err-sheet : goal.returns-in_err-sheet
+returns-in_err-sheet c =
+    let a = c.args in
+    rw (passed_on c.from_residual.ensures.1) (
+      look_refused (untallied_view clubs) (tally_slice clubs) numbered (plain_store_of a.slots.now a.counts.now a.tallies.now) _ (right (goal.at.returns-in_err-sheet c).Else-not-right_lengths).tallies (found (goal.at.returns-in_err-sheet c).After-examine) c.in_err-sheet.was,
       record { same = λ e. c.widen.ensures },
     )

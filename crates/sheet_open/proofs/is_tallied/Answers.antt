@@ -12,7 +12,7 @@ use Rattle.sheet_open.proofs.is_tallied.Goals as goal
 -- There are tallies.
 pub root_tally-requires : goal.root_tally-requires
 root_tally-requires c =
-    omega (arith, c.requires.tallies, levels_room c.requires.ready c.requires.sheet, pow_pos (height c.args.size.m))
+    omega (arith, c.requires.tallies, levels_room c.requires.ready c.requires.sheet, pow_pos (height c.args.sheet.m))
 
 pub slots-requires : goal.slots-requires
 slots-requires c = omega (arith, size_small c.requires.ready c.requires.sheet)
@@ -23,21 +23,21 @@ none_retired-requires c =
 
 pub returns-then-not-none_retired : goal.returns-then-not-none_retired
 returns-then-not-none_retired c = (
-  tested_out c.requires.ready c.requires.sheet c.args.tallies.now (sym c.root_tally.ensures ∙ c.if-root_tally-n.true)
+  tested_out c.requires.ready c.requires.sheet c.args.tallies.now (sym c.root_tally.ensures ∙ c.if-root_tally-sheet.true)
       (rw (← c.slots.ensures) (sym c.none_retired.ensures ∙ c.if-not-none_retired.true)),
   λ e. absurd (not_both e refl),
 )
 
 pub copy_counts-requires : goal.copy_counts-requires
 copy_counts-requires c =
-    record { lengths = c.requires.numbers ∙ sym (work_number c.requires.ready c.requires.sheet); some = omega (arith, c.requires.numbers, levels_room c.requires.ready c.requires.sheet, pow_pos (height c.args.size.m)) }
+    record { lengths = c.requires.numbers ∙ sym (work_number c.requires.ready c.requires.sheet); some = omega (arith, c.requires.numbers, levels_room c.requires.ready c.requires.sheet, pow_pos (height c.args.sheet.m)) }
 
 pub are_counts-requires : goal.are_counts-requires
 are_counts-requires c =
-    record { lengths = c.requires.tallies ∙ sym (counts_number c.requires.ready c.requires.sheet); some = omega (arith, c.requires.tallies, levels_room c.requires.ready c.requires.sheet, pow_pos (height c.args.size.m)) }
+    record { lengths = c.requires.tallies ∙ sym (counts_number c.requires.ready c.requires.sheet); some = omega (arith, c.requires.tallies, levels_room c.requires.ready c.requires.sheet, pow_pos (height c.args.sheet.m)) }
 
-pub returns-then-root_tally-n : goal.returns-then-root_tally-n
-returns-then-root_tally-n c =
+pub returns-then-root_tally-sheet : goal.returns-then-root_tally-sheet
+returns-then-root_tally-sheet c =
     let w = c.requires.sheet in (
       tested_by_counts c.requires.ready w c.args.tallies.now
           (rw (← c.slots.ensures) (sym c.none_retired.ensures ∙ c.if-not-none_retired.false)) c.are_counts.ensures,

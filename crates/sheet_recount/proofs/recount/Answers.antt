@@ -3,7 +3,7 @@ use mathlib.Core.Path.{◌≡◌, sym, ap, ◌∙◌}
 use Prim.Native.Nat.{ℕ, ◌-◌, ◌*◌, ◌≤◌}
 use native.Mathlib.Omega.{arith}
 use lib.ListN.{length, length-replicate}
-use Rattle.sheet_recount.specs.RecountLaws.{recounted_large, slots_room, counts_room, recounted_sheet, recounted_none}
+use Rattle.sheet_recount.specs.RecountLaws.{recounted_large, slots_room, counts_room, recounted}
 use Rattle.sheet_recount.proofs.recount.Goals.{Else-greatest_size-m, Start}
 use Rattle.sheet_recount.proofs.recount.Goals as goal
 
@@ -31,12 +31,7 @@ pub examine-requires : goal.examine-requires
 examine-requires c =
     record { capacity = c.requires.ready; room = c.count_entries.ensures.1 ∙ work_length (goal.at.examine-requires c).Start }
 
-pub returns-in-Sheet : goal.returns-in-Sheet
-returns-in-Sheet c =
-    recounted_sheet c.requires.ready c.args.slots.now c.args.m c.requires.slots (within (goal.at.returns-in-Sheet c).Else-greatest_size-m) _ c.count_entries.ensures.0
-    (c.count_entries.ensures.1 ∙ work_length (goal.at.returns-in-Sheet c).Start) _ c.write_counts.ensures _ _ c.examine.ensures _ _ c.in-Sheet.is
-
-pub returns-in-Refused : goal.returns-in-Refused
-returns-in-Refused c =
-    recounted_none c.requires.ready c.args.slots.now c.args.m c.requires.slots (within (goal.at.returns-in-Refused c).Else-greatest_size-m) _ c.count_entries.ensures.0
-    (c.count_entries.ensures.1 ∙ work_length (goal.at.returns-in-Refused c).Start) _ c.write_counts.ensures _ _ c.examine.ensures _ c.in-Refused.is
+pub returns : goal.returns
+returns c =
+    recounted c.requires.ready c.args.slots.now c.args.m c.requires.slots (within (goal.at.returns c).Else-greatest_size-m) _ c.count_entries.ensures.0
+    (c.count_entries.ensures.1 ∙ work_length (goal.at.returns c).Start) _ c.write_counts.ensures _ _ c.examine.ensures c.or.ensures

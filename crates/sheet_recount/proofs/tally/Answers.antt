@@ -18,7 +18,7 @@ none_retired-requires c =
 
 pub copy_counts-requires : goal.copy_counts-requires
 copy_counts-requires c =
-    record { lengths = c.requires.tallies ∙ sym (fresh_number c.requires.ready c.requires.sheet); some = omega (arith, c.requires.tallies, levels_room c.requires.ready c.requires.sheet, pow_pos (height c.args.size.m)) }
+    record { lengths = c.requires.tallies ∙ sym (fresh_number c.requires.ready c.requires.sheet); some = omega (arith, c.requires.tallies, levels_room c.requires.ready c.requires.sheet, pow_pos (height c.args.sheet.m)) }
 
 pub fresh_tallies-requires : goal.fresh_tallies-requires
 fresh_tallies-requires c =

@@ -1,19 +1,16 @@
--- `same_words` meets its contract. The loop's invariant: the test comes to that of the joined differences and of the words from k on.
-use mathlib.Core.Path.{refl, sym, ◌∙◌}
-use native.Mathlib.Omega.{arith}
-use Rattle.store_zeros.specs.SameLaws.{same_joined, same_joined_all}
+-- `same_words` meets its contract.
+use Rattle.std.proofs.Common.{rules, ◌≡◌, ℕ, bit_or, bit_xor}
+use Rattle.std.specs.List.{fold, zip}
+use Rattle.std.proofs.lemmas.Iterator.{YieldsList-from_slice, YieldsList-from_zip}
+use Rattle.std.proofs.lemmas.Iterator.Consumers.{fold_from_yields_List}
+use Rattle.store_zeros.specs.SameLaws.{same_joined}
 use Rattle.store_balance.proofs.same_words.Goals as goal
-
-pub loop-k-init : goal.loop-k-init
-loop-k-init c = refl
-
-pub loop-k-preserved : goal.loop-k-preserved
-loop-k-preserved c =
-    let a = c.args in
-    c.loop-k.invariant
-    ∙ same_joined a.a.now a.b.now c.loop-k.k c.loop-k.joined c.requires (omega arith)
 
 pub returns : goal.returns
 returns c =
     let a = c.args in
-    sym (c.loop-k.invariant ∙ same_joined_all a.a.now a.b.now c.loop-k.k c.loop-k.joined c.requires (omega arith))
+    let joined : c.fold-joined.result ≡ fold (λ (j : ℕ) (p : ℕ × ℕ). bit_or j (bit_xor p.0 p.1)) 0 (zip a.a.now a.b.now) =
+    fold_from_yields_List _ (λ (j : ℕ) (p : ℕ × ℕ). bit_or j (bit_xor p.0 p.1)) 0 c.fold-joined.result c.fold-joined.ensures.ran
+    (YieldsList-from_zip (YieldsList-from_slice a.a.now (cc)) (YieldsList-from_slice a.b.now (cc)))
+    (λ j x k q called. search rules) in
+    rw joined (same_joined a.a.now a.b.now 0 c.requires)

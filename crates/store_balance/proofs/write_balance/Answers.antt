@@ -2,6 +2,7 @@
 use mathlib.Core.Path.{◌≡◌}
 use Prim.Native.Nat.{ℕ, ◌+◌, ◌*◌, ◌^◌, ◌≤◌, ◌<◌}
 use native.Mathlib.Omega.{arith}
+use Rattle.std.proofs.Common.{rules}
 use lib.ListN.{length}
 use lib.Pow.{pow_pos}
 use Rattle.tree_sizes.specs.Sizes.{height}
@@ -30,8 +31,8 @@ small c =
 pub loop-levels-init : goal.loop-levels-init
 loop-levels-init c =
     let a = c.args in
-    rows_none c.height-levels.result c.leaf_slots-leaf.result a.slots.now a.balance.now _ (omega (arith, pow_pos (height (size c))))
-    c.zero_slots.ensures c.zero_slots.auto.slots
+    rows_none c.height-levels.result c.leaf_slots-leaf.result (length a.balance.now) a.slots.now _ (omega (arith, pow_pos (height (size c))))
+    (c.fill.ensures.after (search rules)) c.fill.ensures.len
 
 pub power-requires : goal.power-requires
 power-requires c =

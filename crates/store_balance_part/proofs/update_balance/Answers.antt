@@ -51,11 +51,11 @@ overflow_add-leaves c = omega (arith, few c)
 
 pub loop-leaf-init : goal.loop-leaf-init
 loop-leaf-init c = (
-  omega (arith, c.larger-leaf.ensures),
+  omega (arith, c.max-leaf.ensures),
   refl,
   but_start {first = c.args.first}
       (rw (c.height-h.ensures, c.leaf_slots-s.ensures) c.requires.kept)
-      (rw (← c.power-leaves.ensures) c.larger-leaf.ensures),
+      (rw (← c.power-leaves.ensures) c.max-leaf.ensures),
 )
 
 pub overflow_mul-s : goal.overflow_mul-s

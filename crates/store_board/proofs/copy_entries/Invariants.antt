@@ -2,7 +2,7 @@
 -- before `start`, have the entries behind the first `seen`; and the ranks from k on do not fall, from `seen` on.
 use mathlib.Core.Path.{◌≡◌}
 use mathlib.Core.Bool.{false}
-use Prim.Native.Nat.{◌-◌, ◌≤◌}
+use Prim.Native.Nat.{◌≤◌}
 use lib.ListN.{length, drop}
 use Rattle.store_layout.specs.Leaf.{nonzero}
 use Rattle.store_slices.specs.Reading.{Reading}
@@ -11,8 +11,5 @@ use Rattle.store_board.proofs.copy_entries.Given as goal
 
 abbrev pub invariant-loop-k : goal.invariant-loop-k
 invariant-loop-k l =
-    (l.k ≤ length l.ranks) × (l.start ≤ l.at) × (nonzero (drop l.at l.slots) ≡ drop l.seen (nonzero l.slots)) × (falls_below l.seen (drop l.k l.ranks) ≡ false)
+    (l.start ≤ l.at) × (nonzero (drop l.at l.slots) ≡ drop l.seen (nonzero l.slots)) × (falls_below l.seen (drop l.k l.ranks) ≡ false)
     × Reading l.initial.output (entries_at (nonzero l.slots) l.ranks) (length l.ranks) l.k l.output
-
-abbrev pub decreases-loop-k : goal.decreases-loop-k
-decreases-loop-k l = length l.ranks - l.k

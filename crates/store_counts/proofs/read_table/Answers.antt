@@ -9,14 +9,14 @@ use Rattle.store_counts.proofs.read_table.Goals.{In-loop-i}
 use Rattle.store_counts.proofs.read_table.Goals as goal
 
 pub loop-i-init : goal.loop-i-init
-loop-i-init c = (omega arith, refl, places_none_from 7 0 _ _)
+loop-i-init c = (refl, places_none_from 7 0 _ _)
 
 -- The place is inside.
 inside : (c : In-loop-i) → get_or c.places_of_eight_levels-places.result c.loop-i.i 0 < 256
 inside c = table_inside c.places_of_eight_levels-places.ensures c.loop-i.i (omega arith)
 
 pub offset_bounds-counts-place : goal.offset_bounds-counts-place
-offset_bounds-counts-place c = omega (arith, inside c)
+offset_bounds-counts-place c = omega (arith, inside (goal.at.offset_bounds-counts-place c).In-loop-i)
 
 pub bounds-counts-place : goal.bounds-counts-place
 bounds-counts-place c = omega (arith, inside (goal.at.bounds-counts-place c).In-loop-i)
@@ -24,13 +24,12 @@ bounds-counts-place c = omega (arith, inside (goal.at.bounds-counts-place c).In-
 pub loop-i-preserved : goal.loop-i-preserved
 loop-i-preserved c =
     let l = c.loop-i in (
-      omega arith,
-      simp length-set l.invariant.1,
-      rw (table_entry c.places_of_eight_levels-places.ensures l.i (omega arith)) (places_next_from 7 l.i _ _ l.invariant.2),
+      simp length-set l.invariant.0,
+      rw (table_entry c.places_of_eight_levels-places.ensures l.i (omega arith)) (places_next_from 7 l.i _ _ l.invariant.1),
     )
 
 pub returns : goal.returns
 returns c =
     let l = c.loop-i in
-    let e : l.i ≡ 255 = omega (arith, l.invariant.0) in
-    rw (← e) l.invariant.2
+    let e : l.i ≡ 255 = omega arith in
+    rw (← e) l.invariant.1

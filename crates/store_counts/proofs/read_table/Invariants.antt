@@ -8,7 +8,4 @@ use Rattle.store_counts.proofs.read_table.Given as goal
 
 abbrev pub invariant-loop-i : goal.invariant-loop-i
 invariant-loop-i l =
-    (l.i ≤ 255) × (length l.work ≡ length l.initial.work) × (l.work ≡ put_from 1 (places_from 7 1 l.i) l.counts l.initial.work)
-
-abbrev pub decreases-loop-i : goal.decreases-loop-i
-decreases-loop-i l = 255 - l.i
+    (length l.work ≡ length l.initial.work) × (l.work ≡ put_from 1 (places_from 7 1 l.i) l.counts l.initial.work)

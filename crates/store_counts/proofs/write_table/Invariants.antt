@@ -8,7 +8,4 @@ use Rattle.store_counts.proofs.write_table.Given as goal
 
 abbrev pub invariant-loop-i : goal.invariant-loop-i
 invariant-loop-i l =
-    (l.i ≤ 255) × (length l.counts ≡ length l.initial.counts) × (l.counts ≡ put_to 1 (places_from 7 1 l.i) l.work l.initial.counts)
-
-abbrev pub decreases-loop-i : goal.decreases-loop-i
-decreases-loop-i l = 255 - l.i
+    (length l.counts ≡ length l.initial.counts) × (l.counts ≡ put_to 1 (places_from 7 1 l.i) l.work l.initial.counts)

@@ -1,23 +1,14 @@
 -- `first_position` meets its contract.
 use mathlib.Core.Path.{sym}
 use native.Mathlib.Omega.{arith}
-use borrow.Author.Rules.{rules}
 use Rattle.base.specs.CaseLaws.{if_lt_no}
 use Rattle.store_layout.specs.Quotient.{position_of}
-use Rattle.store_layout.proofs.QuotientLaws.{odd_most, step_rest, first_half}
+use Rattle.store_layout.proofs.QuotientLaws.{first_half}
 use Rattle.store_layout.proofs.first_position.Goals as goal
 
 pub returns-then-n-eq0 : goal.returns-then-n-eq0
 unfolding position_of
 returns-then-n-eq0 c = sym (if_lt_no _ _ _ _ (omega (arith, c.if-n-eq0.true)))
-
-pub overflow_mul-result : goal.overflow_mul-result
-overflow_mul-result c =
-    search (rules, odd_most c.args.step.whole c.args.n, c.requires.small)
-
-pub overflow_add-result : goal.overflow_add-result
-overflow_add-result c =
-    search (rules, odd_most c.args.step.whole c.args.n, step_rest c.args.s c.args.n c.args.step c.requires.step, c.requires.small)
 
 pub returns : goal.returns
 returns c =

@@ -1,34 +1,30 @@
--- `gather` meets its contract. The loop's invariant: the entries of the first i slots are gathered.
-use Prim.Native.Nat.{◌<◌}
-use lib.ListN.{length}
-use native.Mathlib.Omega.{arith}
-use Rattle.store_layout.proofs.GatherLoop.{gathered_none, gathered_zero, gather_room, gathered_entry, gathered_all}
-use Rattle.store_layout.proofs.gather.Goals.{At-loop-i}
+-- `gather` meets its contract. The loop's invariant: the entries of the slots seen so far are gathered.
+use Rattle.std.proofs.Common.{◌≡◌, ◌+◌, ◌-◌, ◌<◌, length, get_or, take, drop, arith}
+use Rattle.std.proofs.lemmas.List.Edits.{get_or-between}
+use Rattle.store_layout.proofs.GatherLoop.{gathered_none, gathered_zero, gather_room, gathered_entry}
+use Rattle.store_layout.proofs.gather.Goals.{At-loop-slot, In-loop-slot, then-is_entry, else-is_entry}
 use Rattle.store_layout.proofs.gather.Goals as goal
 
 -- The list has room for one element more.
-room : (c : At-loop-i) → c.loop-i.n < length c.loop-i.list
-room c = gather_room c.requires c.loop-i.i c.loop-i.invariant.0
+room : (c : At-loop-slot) → c.loop-slot.n < length c.loop-slot.list
+room c = gather_room c.requires c.loop-slot.slot-index c.loop-slot.invariant
 
-pub loop-i-init : goal.loop-i-init
-loop-i-init c = (gathered_none c.requires, omega arith)
+-- The slot of a turn.
+here : (c : In-loop-slot)
+    → let a = c.args in
+    get_or (take (a.from + a.len - a.from) (drop a.from a.slots.now)) c.loop-slot.slot-index 0 ≡ get_or a.slots.now (a.from + c.loop-slot.slot-index) 0
+here c = get_or-between c.args.slots.now c.args.from (c.args.from + c.args.len) c.loop-slot.slot-index 0 (omega arith)
 
-pub offset_bounds-list-n : goal.offset_bounds-list-n
-offset_bounds-list-n c = omega (arith, room (goal.at.offset_bounds-list-n c).At-loop-i)
+pub loop-slot-init : goal.loop-slot-init
+loop-slot-init c = gathered_none c.requires
 
 pub bounds-list-n : goal.bounds-list-n
-bounds-list-n c = room (goal.at.bounds-list-n c).At-loop-i
+bounds-list-n c = room (goal.at.bounds-list-n c).At-loop-slot
 
-pub overflow_add-n : goal.overflow_add-n
-overflow_add-n c = omega (arith, room (goal.at.overflow_add-n c).At-loop-i)
-
-pub loop-i-preserved-then-held-ne0 : goal.loop-i-preserved-then-held-ne0
-loop-i-preserved-then-held-ne0 c =
-    (gathered_entry c.requires c.loop-i.i c.loop-i.invariant.0 (omega arith) c.if-held-ne0.true, omega arith)
-
-pub loop-i-preserved : goal.loop-i-preserved
-loop-i-preserved c =
-    (gathered_zero c.requires c.loop-i.i c.loop-i.invariant.0 (omega arith) c.if-held-ne0.false, omega arith)
-
-pub returns : goal.returns
-returns c = gathered_all c.requires c.loop-i.i (omega arith) c.loop-i.invariant.0
+pub loop-slot-preserved : goal.loop-slot-preserved
+loop-slot-preserved c =
+    let is = here (goal.at.loop-slot-preserved c).In-loop-slot in
+    elim c.if-is_entry.branch [
+      | then-is_entry w ↦ rw (w.n-is, is) (gathered_entry c.requires c.loop-slot.slot-index c.loop-slot.invariant (omega arith) (rw is at w.if-is_entry.true))
+      | else-is_entry w ↦ rw (w.n-is, is) (gathered_zero c.requires c.loop-slot.slot-index c.loop-slot.invariant (omega arith) (rw is at w.if-is_entry.false))
+    ]

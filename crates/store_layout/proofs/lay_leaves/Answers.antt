@@ -1,42 +1,32 @@
--- `lay_leaves` meets its contract. The loop's invariant: j leaves are laid out (`Laid`).
-use native.Mathlib.Omega.{arith}
-use Rattle.store_layout.specs.Ready.{LeafReady}
-use Rattle.store_layout.proofs.LeavesLoop.{laid_none, laid_more, laid_all, leaf_ready, slots_left}
-use Rattle.store_layout.proofs.lay_leaves.Goals.{After-count_at-n}
+-- `lay_leaves` meets its contract. The loop's invariant: so many leaves are laid out as counts are seen (`Laid`).
+use Rattle.std.proofs.Common.{◌≡◌, ◌+◌, get_or, take, drop, ◌-◌, arith}
+use Rattle.std.proofs.lemmas.List.Edits.{get_or-between}
+use Rattle.store_layout.proofs.LeavesLoop.{laid_none, laid_more, leaf_ready}
+use Rattle.store_layout.proofs.lay_leaves.Goals.{In-loop-count}
 use Rattle.store_layout.proofs.lay_leaves.Goals as goal
 
+-- The number of a turn's leaf.
+here : (c : In-loop-count)
+    → let a = c.args in
+    get_or (take (a.first + a.leaves - a.first) (drop a.first a.counts.now)) c.loop-count.count-index 0
+    ≡ get_or a.counts.now (a.first + c.loop-count.count-index) 0
+here c = get_or-between c.args.counts.now c.args.first (c.args.first + c.args.leaves) c.loop-count.count-index 0 (omega arith)
+
+pub loop-count-init : goal.loop-count-init
+loop-count-init c = laid_none c.requires
+
 -- At each turn the next leaf has its slots and its entries.
-ready : (c : After-count_at-n)
-    → let l = c.loop-j in
-    let a = c.args in
-    LeafReady (record { from = l.to; slots = a.s; at = l.at; entries = c.count_at-n.result }) l.slots a.list.now
-ready c =
-    leaf_ready c.requires c.loop-j.invariant.0 c.loop-j.invariant.1
-    c.loop-j-test.true c.count_at-n.ensures
-
-pub loop-j-init : goal.loop-j-init
-loop-j-init c = (laid_none c.requires, omega arith)
-
 pub spread_leaf-requires : goal.spread_leaf-requires
-spread_leaf-requires c = ready (goal.at.spread_leaf-requires c).After-count_at-n
-
-pub overflow_add-to : goal.overflow_add-to
-overflow_add-to c =
-    omega (
-      arith,
-      slots_left c.requires c.loop-j.invariant.0 c.loop-j.invariant.1 c.loop-j-test.true c.count_at-n.ensures,
-    )
+spread_leaf-requires c =
+    leaf_ready c.requires c.loop-count.invariant (omega arith) (omega arith) (here (goal.at.spread_leaf-requires c).In-loop-count)
 
 pub overflow_add-at : goal.overflow_add-at
-overflow_add-at c = omega (arith, (ready (goal.at.overflow_add-at c).After-count_at-n).list_room)
+overflow_add-at c =
+    omega (
+      arith,
+      (leaf_ready c.requires c.loop-count.invariant (omega arith) (omega arith) (here (goal.at.overflow_add-at c).In-loop-count)).list_room,
+    )
 
-pub loop-j-preserved : goal.loop-j-preserved
-loop-j-preserved c = (
-  laid_more c.requires c.loop-j.invariant.0 c.loop-j.invariant.1 c.loop-j-test.true c.count_at-n.ensures
-      c.spread_leaf.ensures,
-  omega arith,
-)
-
-pub returns : goal.returns
-returns c =
-    laid_all c.requires c.loop-j.invariant.0 c.loop-j.invariant.1 (omega arith)
+pub loop-count-preserved : goal.loop-count-preserved
+loop-count-preserved c =
+    laid_more c.requires c.loop-count.invariant (omega arith) (omega arith) (here (goal.at.loop-count-preserved c).In-loop-count) c.spread_leaf.ensures

@@ -1,13 +1,7 @@
 -- `write_slot` meets its contract.
-use native.Mathlib.Omega.{arith}
 use Rattle.store_layout.proofs.QuotientLaws.{next_room, next_stands}
 use Rattle.store_layout.proofs.LeafLoop.{entry_left, entry_written, gap_written}
 use Rattle.store_layout.proofs.write_slot.Goals as goal
-
-pub bounds-list-leaf : goal.bounds-list-leaf
-bounds-list-leaf c =
-    let pass = c.requires.pass in
-    omega (arith, entry_left pass.passed c.requires.inside c.if-i-next.true, pass.ready.list_room)
 
 pub plus-requires : goal.plus-requires
 plus-requires c =

@@ -26,7 +26,7 @@ pub returns-then-entries_in-n : goal.returns-then-entries_in-n
 returns-then-entries_in-n c = sym (other_number c.requires c.entries_in.ensures c.if-entries_in-n.true)
 
 pub loop-k-init : goal.loop-k-init
-loop-k-init c = (λ j h. absurd (not-suc-le-zero h), record { is = c.first_position-position.ensures }, omega arith)
+loop-k-init c = (λ j h. absurd (not-suc-le-zero h), record { is = c.first_position-position.ensures })
 
 pub overflow_add-from : goal.overflow_add-from
 overflow_add-from c = omega (arith, inside c)
@@ -41,7 +41,7 @@ pub returns-then-slots-from-eq0 : goal.returns-then-slots-from-eq0
 returns-then-slots-from-eq0 c =
     let l = c.loop-k in
     sym
-    (place_empty (ready (goal.at.returns-then-slots-from-eq0 c).In-loop-k) l.k c.loop-k-test.true (rw (← stands_slot l.invariant.1 c.loop-k-test.true) c.if-slots-from-eq0.true))
+    (place_empty (ready (goal.at.returns-then-slots-from-eq0 c).In-loop-k) l._k c.loop-k-test.true (rw (← stands_slot l.invariant.1 c.loop-k-test.true) c.if-slots-from-eq0.true))
 
 pub plus-position-requires : goal.plus-position-requires
 plus-position-requires c =
@@ -51,10 +51,9 @@ pub loop-k-preserved : goal.loop-k-preserved
 loop-k-preserved c =
     let l = c.loop-k in
     let a = c.args in (
-      below_more (λ j. 0 < get_or a.slots.now (a.from + slot_of a.s a.n j) 0) l.k l.invariant.0
+      below_more (λ j. 0 < get_or a.slots.now (a.from + slot_of a.s a.n j) 0) l._k l.invariant.0
           (rw (← stands_slot l.invariant.1 c.loop-k-test.true) (omega (arith, c.if-slots-from-eq0.false))),
       next_stands l.invariant.1 c.position_step-step.ensures c.loop-k-test.true c.plus-position.ensures,
-      omega arith,
     )
 
 pub returns : goal.returns

@@ -14,17 +14,8 @@ fits c =
     let digits = c.requires.digits in
     rw c.power-shift.ensures (digits_fit _ c.requires.few digits.0 digits.1 digits.2)
 
-pub overflow_mul-result : goal.overflow_mul-result
-overflow_mul-result c = omega (arith, (fits c).0)
-
-pub overflow_add-result : goal.overflow_add-result
-overflow_add-result c = omega (arith, (fits c).0)
-
 pub overflow_mul-result-2 : goal.overflow_mul-result-2
 overflow_mul-result-2 c = omega (arith, (fits c).1)
 
 pub overflow_add-result-2 : goal.overflow_add-result-2
 overflow_add-result-2 c = omega (arith, (fits c).1)
-
-pub returns : goal.returns
-returns c = rw c.power-shift.ensures

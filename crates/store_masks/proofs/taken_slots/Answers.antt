@@ -9,26 +9,25 @@ use Rattle.store_masks.proofs.taken_slots.Goals as goal
 pub loop-i-init : goal.loop-i-init
 loop-i-init c =
     let a = c.args in
-    (omega arith, told_none a.slots.now a.from, told_none a.slots.now _, told_none a.slots.now _)
+    (told_none a.slots.now a.from, told_none a.slots.now _, told_none a.slots.now _)
 
 pub next_digit-left-requires : goal.next_digit-left-requires
 next_digit-left-requires c =
-    record { some = told_some _ _ c.loop-i.invariant.1; room = told_small _ _ c.loop-i.invariant.1 (omega arith) (omega arith) }
+    record { some = told_some _ _ c.loop-i.invariant.0; room = told_small _ _ c.loop-i.invariant.0 (omega arith) (omega arith) }
 
 pub next_digit-middle-requires : goal.next_digit-middle-requires
 next_digit-middle-requires c =
-    record { some = told_some _ _ c.loop-i.invariant.2; room = told_small _ _ c.loop-i.invariant.2 (omega arith) (omega arith) }
+    record { some = told_some _ _ c.loop-i.invariant.1; room = told_small _ _ c.loop-i.invariant.1 (omega arith) (omega arith) }
 
 pub next_digit-right-requires : goal.next_digit-right-requires
 next_digit-right-requires c =
-    record { some = told_some _ _ c.loop-i.invariant.3; room = told_small _ _ c.loop-i.invariant.3 (omega arith) (omega arith) }
+    record { some = told_some _ _ c.loop-i.invariant.2; room = told_small _ _ c.loop-i.invariant.2 (omega arith) (omega arith) }
 
 pub loop-i-preserved : goal.loop-i-preserved
 loop-i-preserved c = (
-  omega arith,
-  told_next _ _ c.loop-i.invariant.1 (omega arith) c.next_digit-left.ensures,
-  told_next _ _ c.loop-i.invariant.2 (omega arith) c.next_digit-middle.ensures,
-  told_next _ _ c.loop-i.invariant.3 (omega arith) c.next_digit-right.ensures,
+  told_next _ _ c.loop-i.invariant.0 (omega arith) c.next_digit-left.ensures,
+  told_next _ _ c.loop-i.invariant.1 (omega arith) c.next_digit-middle.ensures,
+  told_next _ _ c.loop-i.invariant.2 (omega arith) c.next_digit-right.ensures,
 )
 
 -- Behind the loop each third is told as a whole.
@@ -39,8 +38,8 @@ thirds : (c : After-loop-i)
     × Told a.slots.now (a.from + a.g) a.g l.middle
     × Told a.slots.now (a.from + a.g + a.g) a.g l.right
 thirds c =
-    let all : c.loop-i.i ≡ c.args.g = omega (arith, c.loop-i.invariant.0, c.loop-i-test.false) in
-    let inv = c.loop-i.invariant in (rw all at inv.1, rw all at inv.2, rw all at inv.3)
+    let all : c.loop-i.i ≡ c.args.g = omega (arith, c.loop-i-test.false) in
+    let inv = c.loop-i.invariant in (rw all at inv.0, rw all at inv.1, rw all at inv.2)
 
 pub joined-requires : goal.joined-requires
 joined-requires c =

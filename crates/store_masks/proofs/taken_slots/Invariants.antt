@@ -1,11 +1,7 @@
 -- `taken_slots` meets its contract. The loop's invariant: the first i slots of each third are told.
-use Prim.Native.Nat.{◌-◌, ◌≤◌}
 use Rattle.store_masks.specs.ThirdsLaws.{Told}
 use Rattle.store_masks.proofs.taken_slots.Given as goal
 
 abbrev pub invariant-loop-i : goal.invariant-loop-i
 invariant-loop-i l =
-    (l.i ≤ l.g) × Told l.slots l.from l.i l.left × Told l.slots l.second l.i l.middle × Told l.slots l.third l.i l.right
-
-abbrev pub decreases-loop-i : goal.decreases-loop-i
-decreases-loop-i l = l.g - l.i
+    Told l.slots l.from l.i l.left × Told l.slots l.second l.i l.middle × Told l.slots l.third l.i l.right

@@ -25,5 +25,5 @@ returns c =
     (gathered_part _ _ _ _ _ _ _ _ c.part_from-old_from.ensures c.part_length-old_length.ensures c.gather-n.ensures)
     c.change_list.ensures _ _
     (zeroed_part _ _ _ _ _ _ _ _ _ _ c.part_from.ensures c.part_length.ensures c.part_from-old_from.ensures c.part_length-old_length.ensures
-    c.larger-last.ensures c.zero_slots.ensures)
+    c.max-last.ensures c.zero_slots.ensures)
     c.lay_entries.ensures

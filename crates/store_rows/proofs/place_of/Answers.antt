@@ -2,7 +2,6 @@
 use Prim.Native.Nat.{ℕ, ◌+◌, ◌-◌, ◌*◌, ◌/◌, ◌^◌, ◌<◌}
 use native.Mathlib.Omega.{arith}
 use lib.Bits.{bit_and, and_mask}
-use lib.Pow.{pow_pos}
 use Rattle.store_rows.specs.Within.{Within}
 use Rattle.store_rows.specs.WithinLaws.{within_whole, within_small, within_one, within_top, within_lower}
 use Rattle.store_rows.proofs.place_of.Goals.{After-power-ranges}
@@ -29,35 +28,8 @@ loop-levels-init c = within_whole c.args.h c.args.depth c.args.k c.requires.most
 pub loop-levels-preserved-then-below-top : goal.loop-levels-preserved-then-below-top
 loop-levels-preserved-then-below-top c = within_top c.loop-levels.invariant c.loop-levels-test.true c.if-below-top.true
 
-pub power-subtrees-requires : goal.power-subtrees-requires
-power-subtrees-requires c = omega (arith, c.loop-levels.invariant.ready.levels_fit)
-
-pub power-ranges-requires : goal.power-ranges-requires
-power-ranges-requires c = omega (arith, c.loop-levels.invariant.ready.levels_fit)
-
-pub overflow_sub-ranges : goal.overflow_sub-ranges
-overflow_sub-ranges c = rw c.power-ranges.ensures (pow_pos _)
-
-pub overflow_shr-subtree : goal.overflow_shr-subtree
-overflow_shr-subtree c = let w = c.loop-levels.invariant in omega (arith, w.inside, w.ready.levels_fit)
-
-pub overflow_sub-subtree : goal.overflow_sub-subtree
-overflow_sub-subtree c = rw c.power-subtrees.ensures (pow_pos _)
-
-pub overflow_sub-at : goal.overflow_sub-at
-overflow_sub-at c = rw c.power-subtrees.ensures (pow_pos _)
-
-pub overflow_add-at : goal.overflow_add-at
-overflow_add-at c = omega (arith, small c)
-
-pub overflow_mul-at : goal.overflow_mul-at
-overflow_mul-at c = omega (arith, small c)
-
 pub overflow_add-at-else-below-top : goal.overflow_add-at-else-below-top
 overflow_add-at-else-below-top c = omega (arith, small c)
-
-pub loop-levels-smaller : goal.loop-levels-smaller
-loop-levels-smaller c = omega (arith, c.loop-levels-test.true)
 
 pub loop-levels-preserved : goal.loop-levels-preserved
 loop-levels-preserved c = subtree c

@@ -1,11 +1,10 @@
 -- `write_row` meets its contract. The loop's invariant: the numbers of the ranges before k are written.
-use mathlib.Core.Path.{◌≡◌}
-use Prim.Native.Nat.{◌+◌, ◌*◌, ◌^◌, ◌≤◌, ◌<◌}
+use Prim.Native.Nat.{◌*◌, ◌^◌, ◌≤◌, ◌<◌}
 use native.Mathlib.Omega.{arith}
 use lib.ListN.{length}
 use lib.Pow.{pow_mono}
 use Rattle.store_order.proofs.CountOrderLaws.{place_low}
-use Rattle.store_rows.specs.RowLaws.{none_written, next_written}
+use Rattle.store_rows.specs.RowLaws.{next_written}
 use Rattle.store_rows.proofs.write_row.Goals.{After-place_of-place, After-shared_slice_known-in-loop-k-1, In-loop-k, Start}
 use Rattle.store_rows.proofs.write_row.Goals as goal
 
@@ -24,18 +23,7 @@ place c =
 
 inside : (c : After-shared_slice_known-in-loop-k-1) → c.place_of-place.result < length c.loop-k.counts
 inside c =
-    omega (arith, place (goal.at.After-shared_slice_known-in-loop-k-1 c).After-place_of-place, c.loop-k.invariant.2.kept, c.requires.places)
-
-pub loop-k-init : goal.loop-k-init
-loop-k-init c = (omega arith, omega (arith, c.requires.row.order), none_written)
-
-pub place_of-place-requires : goal.place_of-place-requires
-place_of-place-requires c =
-    let row = c.requires.row in
-    record { most = c.requires.most; inside = c.requires.inside; row = (omega (arith, row.from, c.loop-k.invariant.0), omega (arith, row.before, c.loop-k-test.true)) }
-
-pub offset_bounds-numbers-k : goal.offset_bounds-numbers-k
-offset_bounds-numbers-k c = omega (arith, range (goal.at.offset_bounds-numbers-k c).In-loop-k, few (goal.at.offset_bounds-numbers-k c).Start)
+    omega (arith, place (goal.at.After-shared_slice_known-in-loop-k-1 c).After-place_of-place, c.loop-k.invariant.kept, c.requires.places)
 
 pub bounds-numbers-k : goal.bounds-numbers-k
 bounds-numbers-k c = omega (arith, range (goal.at.bounds-numbers-k c).In-loop-k, c.requires.ranges)
@@ -46,15 +34,6 @@ offset_bounds-counts-place c = omega (arith, place (goal.at.offset_bounds-counts
 pub bounds-counts-place : goal.bounds-counts-place
 bounds-counts-place c = inside c
 
-pub overflow_add-k : goal.overflow_add-k
-overflow_add-k c = omega (arith, range (goal.at.overflow_add-k c).In-loop-k, few (goal.at.overflow_add-k c).Start)
-
 pub loop-k-preserved : goal.loop-k-preserved
 loop-k-preserved c =
-    let inv = c.loop-k.invariant in
-    (omega (arith, inv.0), omega (arith, c.loop-k-test.true), next_written inv.2 inv.0 c.place_of-place.ensures (inside c))
-
-pub returns : goal.returns
-returns c =
-    let all : c.loop-k.k ≡ c.args.to + 1 = omega (arith, c.loop-k-test.false, c.loop-k.invariant.1) in
-    rw all at c.loop-k.invariant.2
+    next_written c.loop-k.invariant c.loop-k.auto.k c.place_of-place.ensures (inside c)

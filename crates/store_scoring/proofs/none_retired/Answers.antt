@@ -1,39 +1,37 @@
--- `none_retired` meets its contract. The loop's invariant: no boat of the slots before the next block is retired.
-use mathlib.Core.Path.{◌≡◌, refl, sym, ◌∙◌, ap}
-use mathlib.Core.Bool.{true}
-use Prim.Native.Nat.{ℕ, ◌+◌, ◌-◌}
-use native.Mathlib.Omega.{arith}
-use lib.ListN.{take}
+-- `none_retired` meets its contract.
+use Rattle.std.proofs.Common.{rules, ◌≡◌, ◌<◌, ◌/◌, ◌∙◌, sym, ℕ, List, take, length, true, false}
+use Rattle.std.specs.Bool.{MatchBool}
+use Rattle.std.specs.List.{AllWithin, HoldsAt}
+use Rattle.std.proofs.lemmas.Iterator.{cases_from_all, YieldsList-from_slice}
+use borrow.Author.Tests.{tests}
 use Rattle.store_layout.specs.Leaf.{nonzero}
 use Rattle.store_scoring.specs.Scoring.{none_retired}
-use Rattle.store_scoring.specs.ScoringLaws.{none_block, some_more}
+use Rattle.store_scoring.specs.ScoringLaws.{none_blocks, some_block}
 use Rattle.store_scoring.proofs.none_retired.Goals as goal
 
-pub loop-at-init : goal.loop-at-init
-unfolding none_retired nonzero
-loop-at-init c = (omega arith, refl)
+-- No boat of these slots is retired, or one is.
+abbrev none : List ℕ → Type 0
+none slots = none_retired (nonzero slots) ≡ true
 
-pub none_among-requires : goal.none_among-requires
-none_among-requires c = omega (arith, c.loop-at.invariant.0)
+abbrev some : List ℕ → Type 0
+some slots = none_retired (nonzero slots) ≡ false
 
-pub returns-then-not-none_among : goal.returns-then-not-none_among
-returns-then-not-none_among c =
-    let a = c.args in
-    sym (some_more a.slots.now (c.loop-at.at + 64) a.len (omega (arith, c.loop-at.invariant.0))
-    (none_block a.slots.now c.loop-at.at 64 c.loop-at.invariant.1 ∙ sym c.none_among.ensures ∙ c.if-not-none_among.true))
+pub returns-then-all : goal.returns-then-all
+returns-then-all c =
+    let blocks = c.as_chunks.result.0.now in
+    let tested : MatchBool c.all.result (AllWithin none blocks 0 (length blocks)) ((k : ℕ) × (k < length blocks) × HoldsAt some blocks k) =
+    cases_from_all _ _ _ none some c.all.ensures.ran (YieldsList-from_slice blocks (cc)) (λ x q k. search (rules, tests)) (λ x q k. search (rules, tests)) in
+    let every : AllWithin none blocks 0 (length blocks) = rw c.if-all.true at tested in
+    let whole = take c.args.len c.args.slots.now in
+    rw (c.none_among.ensures, c.as_chunks.ensures.back)
+    (sym (none_blocks 64 (length whole / 64) whole (rw c.as_chunks.ensures.front at every)))
 
-pub loop-at-preserved : goal.loop-at-preserved
-loop-at-preserved c =
-    let a = c.args in
-    (omega arith, none_block a.slots.now c.loop-at.at 64 c.loop-at.invariant.1 ∙ sym c.none_among.ensures ∙ c.if-not-none_among.false)
-
-pub none_among-requires-2 : goal.none_among-requires-2
-none_among-requires-2 c = omega (arith, c.loop-at.invariant.0)
-
-pub returns : goal.returns
-returns c =
-    let a = c.args in
-    let all : c.loop-at.at + (a.len - c.loop-at.at) ≡ a.len = omega (arith, c.loop-at.invariant.0) in
-    c.none_among-2.ensures
-    ∙ sym (none_block a.slots.now c.loop-at.at (a.len - c.loop-at.at) c.loop-at.invariant.1)
-    ∙ ap (λ (n : ℕ). none_retired (nonzero (take n a.slots.now))) all
+pub returns-else-all : goal.returns-else-all
+returns-else-all c =
+    let blocks = c.as_chunks.result.0.now in
+    let tested : MatchBool c.all.result (AllWithin none blocks 0 (length blocks)) ((k : ℕ) × (k < length blocks) × HoldsAt some blocks k) =
+    cases_from_all _ _ _ none some c.all.ensures.ran (YieldsList-from_slice blocks (cc)) (λ x q k. search (rules, tests)) (λ x q k. search (rules, tests)) in
+    let one : (k : ℕ) × (k < length blocks) × HoldsAt some blocks k = rw c.if-all.false at tested in
+    let whole = take c.args.len c.args.slots.now in
+    let out = rw c.as_chunks.ensures.front at one in
+    c.if-all.false ∙ sym (some_block 64 (length whole / 64) whole out.0 out.1 out.2)

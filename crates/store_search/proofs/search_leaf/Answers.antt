@@ -1,41 +1,47 @@
--- `search_leaf` meets its contract. The loop's invariant: the first i slots of the leaf are passed.
+-- `search_leaf` meets its contract. The loop's invariant: the first slots of the leaf are passed.
 use mathlib.Core.Path.{◌≡◌}
-use mathlib.Core.List.{List}
-use Prim.Native.Nat.{ℕ, ◌+◌, ◌<◌}
+use Prim.Native.Nat.{◌+◌, ◌-◌}
 use native.Mathlib.Omega.{arith}
-use lib.ListN.{length, get_or, take, drop}
-use Rattle.base.specs.ListLaws.{length_part, part_at}
+use lib.ListN.{take, drop}
+use Rattle.base.specs.ListLaws.{length_part}
+use Rattle.store_layout.specs.Leaf.{nonzero}
+use Rattle.store_search.specs.Sought.{sought_at}
+use Rattle.store_search.specs.LeafFor.{sought_behind}
 use Rattle.store_search.specs.LeafLoopLaws.{passed_none, passed_small, passed_next, passed_all}
-use Rattle.store_search.proofs.search_leaf.Goals.{At-loop-i, In-loop-i}
+use Rattle.store_search.proofs.search_leaf.Goals.{After-loop-held}
 use Rattle.store_search.proofs.search_leaf.Goals as goal
 
--- The slots of the leaf.
-abbrev leaf : (c : At-loop-i) → List ℕ
-leaf c = let a = c.args in take a.len (drop a.start.slot a.slots.now)
-
-length_leaf : (c : At-loop-i) → length (leaf c) ≡ c.args.len
-length_leaf c = length_part c.args.slots.now c.args.start.slot c.args.len c.requires.room
-
--- The slot that a turn reads is one of the leaf.
-leaf_slot : (c : In-loop-i)
-    → let a = c.args in
-    get_or (leaf (goal.at.In-loop-i c).At-loop-i) c.loop-i.i 0 ≡ get_or a.slots.now (a.start.slot + c.loop-i.i) 0
-leaf_slot c =
-    let a = c.args in part_at a.slots.now a.start.slot a.len c.loop-i.i 0 (omega arith)
-
-inside : (c : In-loop-i) → c.loop-i.i < length (leaf (goal.at.In-loop-i c).At-loop-i)
-inside c = omega (arith, length_leaf (goal.at.In-loop-i c).At-loop-i)
-
-pub loop-i-init : goal.loop-i-init
-loop-i-init c = passed_none
+pub loop-held-init : goal.loop-held-init
+loop-held-init c = passed_none
 
 pub overflow_add-rank : goal.overflow_add-rank
 overflow_add-rank c =
-    omega (arith, c.count_below-rank.ensures, rw (leaf_slot (goal.at.overflow_add-rank c).In-loop-i) at (passed_small c.loop-i.invariant (inside (goal.at.overflow_add-rank c).In-loop-i)), length_leaf (goal.at.overflow_add-rank c).At-loop-i)
+    let a = c.args in
+    let len : a.start.slot + a.len - a.start.slot ≡ a.len = omega arith in
+    omega (
+      arith,
+      c.count_below-rank.ensures,
+      passed_small c.loop-held.invariant c.loop-held-test.true,
+      rw len at (length_part a.slots.now a.start.slot (a.start.slot + a.len - a.start.slot) (omega (arith, c.requires.room))),
+    )
 
-pub loop-i-preserved : goal.loop-i-preserved
-loop-i-preserved c =
-    rw (c.count_below-rank.ensures, c.has_key-present.ensures) (rw (leaf_slot (goal.at.loop-i-preserved c).In-loop-i) at (passed_next c.loop-i.invariant (inside (goal.at.loop-i-preserved c).In-loop-i)))
+pub loop-held-preserved : goal.loop-held-preserved
+loop-held-preserved c =
+    rw (c.count_below-rank.ensures, c.has_key-present.ensures) (passed_next c.loop-held.invariant c.loop-held-test.true)
 
-pub returns : goal.returns
-returns c = passed_all c.loop-i.invariant (omega (arith, length_leaf (goal.at.returns c).At-loop-i))
+-- All slots are passed.
+all : (c : After-loop-held)
+    → let a = c.args in
+    sought_at c.loop-held.present c.loop-held.rank ≡ sought_behind a.start.before a.k (nonzero (take a.len (drop a.start.slot a.slots.now)))
+all c =
+    let a = c.args in
+    let len : a.start.slot + a.len - a.start.slot ≡ a.len = omega arith in
+    rw len at (passed_all c.loop-held.invariant c.loop-held-test.false)
+
+pub returns-then-present : goal.returns-then-present
+unfolding sought_at
+returns-then-present c = rw c.if-present.true at (all (goal.at.returns-then-present c).After-loop-held)
+
+pub returns-else-present : goal.returns-else-present
+unfolding sought_at
+returns-else-present c = rw c.if-present.false at (all (goal.at.returns-else-present c).After-loop-held)

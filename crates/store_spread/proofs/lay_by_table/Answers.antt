@@ -1,74 +1,64 @@
--- `lay_by_table` meets its contract. The loop's invariant: j leaves are laid out (`Laid`), and the list is as it was.
+-- `lay_by_table` meets its contract. The loop's invariant: so many leaves are laid out as counts are seen (`Laid`), and the list is as it was.
+use Rattle.std.proofs.Common.{◌≡◌, ℕ, ◌-◌, get_or, take, drop}
+use Rattle.std.proofs.lemmas.List.Edits.{get_or-between}
 use mathlib.Core.Path.{refl, ◌∙◌}
 use Prim.Native.Nat.{◌+◌, ◌<◌}
 use lib.ListN.{length}
 use native.Mathlib.Omega.{arith}
 use borrow.Author.Rules.{rules}
-use Rattle.store_layout.proofs.LeavesLoop.{laid_none, laid_all, slots_left}
-use Rattle.store_spread.specs.LeavesTableLaws.{restored, end_room, row_room, table_ready, laid_next}
-use Rattle.store_spread.proofs.lay_by_table.Goals.{After-count_at-n}
+use Rattle.store_layout.proofs.LeavesLoop.{laid_none}
+use Rattle.store_spread.specs.LeavesTableLaws.{restored, end_room, table_ready, laid_next}
+use Rattle.store_spread.proofs.lay_by_table.Goals.{In-loop-count}
 use Rattle.store_spread.proofs.lay_by_table.Goals as goal
 
+-- The number of a turn's leaf.
+abbrev number : (g : _) → In-loop-count g → ℕ
+number g c = let a = c.args in get_or (take (a.first + a.leaves - a.first) (drop a.first a.counts.now)) c.loop-count.count-index 0
+
+here : (g : _) (c : In-loop-count g) → number g c ≡ get_or c.args.counts.now (c.args.first + c.loop-count.count-index) 0
+here g c = get_or-between c.args.counts.now c.args.first (c.args.first + c.args.leaves) c.loop-count.count-index 0 (omega arith)
+
 -- At each turn there is room behind the leaf's entries.
-room : (c : After-count_at-n)
-    → c.loop-j.at + c.count_at-n.result < length c.args.list.now
-room c =
-    end_room c.requires.ready c.requires.room c.loop-j.invariant.0 c.loop-j.invariant.1 c.loop-j-test.true c.count_at-n.ensures
+room : (g : _) (c : In-loop-count g)
+    → c.loop-count.at + number g c < length c.args.list.now
+room g c =
+    end_room c.requires.ready c.requires.room c.loop-count.invariant.0 (omega arith) (omega arith) (here g c)
 
-behind : (c : After-count_at-n) → let l = c.loop-j in l.at + c.count_at-n.result < length l.list
-behind c = rw c.loop-j.invariant.2 (room c)
+behind : (g : _) (c : In-loop-count g) → let l = c.loop-count in l.at + number g c < length l.list
+behind g c = rw c.loop-count.invariant.1 (room g c)
 
-pub loop-j-init : goal.loop-j-init
-loop-j-init c = (laid_none c.requires.ready, omega arith, refl)
+pub loop-count-init : goal.loop-count-init
+loop-count-init g c = (laid_none c.requires.ready, refl)
 
 pub overflow_add-end : goal.overflow_add-end
-overflow_add-end c = omega (arith, room c)
+overflow_add-end g c = omega (arith, room g (goal.at.overflow_add-end g c).In-loop-count)
 
 pub offset_bounds-list-end : goal.offset_bounds-list-end
-offset_bounds-list-end c = omega (arith, room c)
+offset_bounds-list-end g c = omega (arith, room g (goal.at.offset_bounds-list-end g c).In-loop-count)
 
 pub bounds-list-end : goal.bounds-list-end
-bounds-list-end c = behind (goal.at.bounds-list-end c).After-count_at-n
+bounds-list-end g c = behind g (goal.at.bounds-list-end g c).In-loop-count
 
-pub offset_bounds-list-end-in-loop-j : goal.offset_bounds-list-end-in-loop-j
-offset_bounds-list-end-in-loop-j c = omega (arith, room (goal.at.offset_bounds-list-end-in-loop-j c).After-count_at-n)
+pub offset_bounds-list-end-in-loop-count : goal.offset_bounds-list-end-in-loop-count
+offset_bounds-list-end-in-loop-count g c = omega (arith, room g (goal.at.offset_bounds-list-end-in-loop-count g c).In-loop-count)
 
-pub bounds-list-end-in-loop-j : goal.bounds-list-end-in-loop-j
-bounds-list-end-in-loop-j c = behind (goal.at.bounds-list-end-in-loop-j c).After-count_at-n
-
-pub overflow_mul-n : goal.overflow_mul-n
-overflow_mul-n c =
-    omega (
-      arith,
-      rw (← c.requires.table) at
-          (row_room c.requires.ready c.requires.room c.loop-j.invariant.0 c.loop-j.invariant.1 c.loop-j-test.true c.count_at-n.ensures),
-    )
+pub bounds-list-end-in-loop-count : goal.bounds-list-end-in-loop-count
+bounds-list-end-in-loop-count g c = behind g (goal.at.bounds-list-end-in-loop-count g c).In-loop-count
 
 pub spread_leaf-requires : goal.spread_leaf-requires
-spread_leaf-requires c =
-    rw c.loop-j.invariant.2
-    (table_ready c.requires.ready c.requires.room c.loop-j.invariant.0 c.loop-j.invariant.1 c.loop-j-test.true c.count_at-n.ensures c.requires.table)
+spread_leaf-requires g c =
+    rw c.loop-count.invariant.1
+    (table_ready c.requires.ready c.requires.room c.loop-count.invariant.0 (omega arith) (omega arith) (here g (goal.at.spread_leaf-requires g c).In-loop-count) c.requires.table)
 
-pub offset_bounds-list-end-in-loop-j-2 : goal.offset_bounds-list-end-in-loop-j-2
-offset_bounds-list-end-in-loop-j-2 c = omega (arith, room (goal.at.offset_bounds-list-end-in-loop-j-2 c).After-count_at-n)
+pub offset_bounds-list-end-in-loop-count-2 : goal.offset_bounds-list-end-in-loop-count-2
+offset_bounds-list-end-in-loop-count-2 g c = omega (arith, room g (goal.at.offset_bounds-list-end-in-loop-count-2 g c).In-loop-count)
 
-pub bounds-list-end-in-loop-j-2 : goal.bounds-list-end-in-loop-j-2
-bounds-list-end-in-loop-j-2 c = search (rules, behind (goal.at.bounds-list-end-in-loop-j-2 c).After-count_at-n)
+pub bounds-list-end-in-loop-count-2 : goal.bounds-list-end-in-loop-count-2
+bounds-list-end-in-loop-count-2 g c = search (rules, behind g (goal.at.bounds-list-end-in-loop-count-2 g c).In-loop-count)
 
-pub overflow_add-to : goal.overflow_add-to
-overflow_add-to c =
-    omega (
-      arith,
-      slots_left c.requires.ready c.loop-j.invariant.0 c.loop-j.invariant.1 c.loop-j-test.true c.count_at-n.ensures,
-    )
-
-pub loop-j-preserved : goal.loop-j-preserved
-loop-j-preserved c = (
-  laid_next c.requires.ready c.requires.room c.loop-j.invariant.0 c.loop-j.invariant.1 c.loop-j-test.true c.count_at-n.ensures
-      (c.spread_leaf.ensures ∙ rw c.loop-j.invariant.2),
-  omega arith,
-  restored c.loop-j.list (c.loop-j.at + c.count_at-n.result) ∙ c.loop-j.invariant.2,
+pub loop-count-preserved : goal.loop-count-preserved
+loop-count-preserved g c = (
+  laid_next c.requires.ready c.requires.room c.loop-count.invariant.0 (omega arith) (omega arith) (here g (goal.at.loop-count-preserved g c).In-loop-count)
+      (c.spread_leaf.ensures ∙ rw c.loop-count.invariant.1),
+  restored c.loop-count.list (c.loop-count.at + number g (goal.at.loop-count-preserved g c).In-loop-count) ∙ c.loop-count.invariant.1,
 )
-
-pub returns : goal.returns
-returns c = laid_all c.requires.ready c.loop-j.invariant.0 c.loop-j.invariant.1 (omega arith)

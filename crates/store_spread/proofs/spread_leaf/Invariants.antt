@@ -1,13 +1,9 @@
 -- `spread_leaf` meets its contract. The loop's invariant: the leaf's slots up to i are written, and its later ones are as they were.
 use mathlib.Core.Path.{◌≡◌}
-use Prim.Native.Nat.{◌-◌, ◌≤◌}
 use lib.ListN.{length}
 use Rattle.store_layout.specs.Pass.{written_to}
 use Rattle.store_spread.proofs.spread_leaf.Given as goal
 
 abbrev pub invariant-loop-i : goal.invariant-loop-i
 invariant-loop-i l =
-    (l.slots ≡ written_to l.leaf l.list l.i l.initial.slots) × (l.i ≤ l.leaf.slots) × (length l.slots ≡ length l.initial.slots)
-
-abbrev pub decreases-loop-i : goal.decreases-loop-i
-decreases-loop-i l = l.leaf.slots - l.i
+    (l.slots ≡ written_to l.leaf l.list l.i l.initial.slots) × (length l.slots ≡ length l.initial.slots)

@@ -11,12 +11,6 @@ use Rattle.store_spread.proofs.write_slot.Goals as goal
 inside : (c : Start) → let a = c.args in a.leaf.at + get_or a.entries.now (a.row + a.i) 0 < length a.list.now
 inside c = omega (arith, (table_slot c.requires.ready c.requires.inside).1, c.requires.ready.zero_room)
 
-pub overflow_add-slots : goal.overflow_add-slots
-overflow_add-slots c = omega (arith, inside (goal.at.overflow_add-slots c).Start)
-
-pub offset_bounds-list-leaf : goal.offset_bounds-list-leaf
-offset_bounds-list-leaf c = omega (arith, inside (goal.at.offset_bounds-list-leaf c).Start)
-
 pub bounds-list-leaf : goal.bounds-list-leaf
 bounds-list-leaf c = inside (goal.at.bounds-list-leaf c).Start
 

@@ -4,7 +4,7 @@ use Prim.Native.Nat.{ℕ, ◌+◌, ◌*◌}
 use native.Mathlib.Omega.{arith}
 use lib.ListN.{get_or}
 use Rattle.store_sums.specs.Updating.{halves_sum}
-use Rattle.store_sums.specs.UpdatingLaws.{filled_none, filled_next}
+use Rattle.store_sums.specs.UpdatingLaws.{filled_next}
 use Rattle.store_sums.proofs.add_halves.Goals.{In-loop-k}
 use Rattle.store_sums.proofs.add_halves.Goals as goal
 
@@ -14,10 +14,7 @@ sum : (c : In-loop-k)
 unfolding halves_sum
 sum c =
     let l = c.loop-k in
-    ap₂ (λ (x y : ℕ). x + y) (l.invariant.2.behind (2 * l.k) (omega arith)) (l.invariant.2.behind (2 * l.k + 1) (omega arith))
-
-pub loop-k-init : goal.loop-k-init
-loop-k-init c = (omega arith, omega arith, filled_none)
+    ap₂ (λ (x y : ℕ). x + y) (l.invariant.behind (2 * l.k) (omega arith)) (l.invariant.behind (2 * l.k + 1) (omega arith))
 
 pub overflow_add-numbers-in-loop-k : goal.overflow_add-numbers-in-loop-k
 overflow_add-numbers-in-loop-k c =
@@ -25,9 +22,4 @@ overflow_add-numbers-in-loop-k c =
 
 pub loop-k-preserved : goal.loop-k-preserved
 loop-k-preserved c =
-    (omega arith, omega arith, filled_next c.loop-k.invariant.2 (omega arith) (omega arith) _ (sum (goal.at.loop-k-preserved c).In-loop-k))
-
-pub returns : goal.returns
-returns c =
-    let all : c.loop-k.k ≡ c.args.end = omega arith in
-    rw all at c.loop-k.invariant.2
+    filled_next c.loop-k.invariant c.loop-k.auto.k (omega arith) _ (sum (goal.at.loop-k-preserved c).In-loop-k)

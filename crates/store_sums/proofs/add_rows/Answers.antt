@@ -1,5 +1,5 @@
 -- `add_rows` meets its contract. The loop's invariant: whatever numbers the leaves had, the rows up to the one reached have theirs.
-use mathlib.Core.Path.{refl, ◌∙◌}
+use mathlib.Core.Path.{◌∙◌}
 use Prim.Native.Nat.{ℕ, suc, ◌+◌, ◌*◌, ◌/◌, ◌≤◌}
 use native.Mathlib.Omega.{arith}
 use lib.ListN.{length}
@@ -19,12 +19,6 @@ room : (c : In-loop-from) → 2 * (c.loop-from.to / 2 + 1) ≤ length c.loop-fro
 room c =
     let w = c.requires in
     omega (arith, updating_room (rows (goal.at.In-loop-from c).At-loop-from).1 w.sums (omega arith), c.loop-from.invariant.0, w.room)
-
-pub loop-from-init : goal.loop-from-init
-loop-from-init c = (refl, λ w. (0, w.leaves))
-
-pub overflow_add-to : goal.overflow_add-to
-overflow_add-to c = omega (arith, room (goal.at.overflow_add-to c).In-loop-from)
 
 pub add_halves-requires : goal.add_halves-requires
 add_halves-requires c =

@@ -48,18 +48,9 @@ ready c words counted =
           (rw (end, leaves c) none) (rw (end, leaves c) counted);
     }
 
-pub bounds-counts-0 : goal.bounds-counts-0
-bounds-counts-0 c = omega (arith, pow_pos (height c.args.size.m))
-
 pub power-leaves-requires : goal.power-leaves-requires
 power-leaves-requires c =
     omega (arith, c.height.ensures, height_most c.args.size.m 32 (omega arith) (omega arith))
-
-pub overflow_mul-leaves : goal.overflow_mul-leaves
-overflow_mul-leaves c = omega (arith, leaves (goal.at.overflow_mul-leaves c).After-power-leaves, c.requires.room)
-
-pub overflow_sub-leaves : goal.overflow_sub-leaves
-overflow_sub-leaves c = omega (arith, leaves (goal.at.overflow_sub-leaves c).After-power-leaves, pow_pos (height c.args.size.m))
 
 pub add_rows-requires : goal.add_rows-requires
 add_rows-requires c = ready (goal.at.add_rows-requires c).After-power-leaves _ c.count_leaves.ensures

@@ -6,7 +6,7 @@ use lib.ListN.{length}
 use Rattle.tree_sizes.specs.Sizes.{height, slots}
 use Rattle.tree_sizes.proofs.SizeLaws.{height_most, leaf_slots_most, slots_le}
 use Rattle.store_sums.specs.SumLaws.{number_leaf, leaf_room, slots_few, length_additive}
-use Rattle.store_sums.specs.UpdatingLaws.{filled_none, filled_next, filled_by}
+use Rattle.store_sums.specs.UpdatingLaws.{filled_by}
 use Rattle.store_sums.proofs.count_leaves.Goals.{After-power-leaves, In-loop-k}
 use Rattle.store_sums.proofs.count_leaves.Goals as goal
 
@@ -17,27 +17,14 @@ size c = c.args.size.m
 first_leaf : (c : After-power-leaves) → c.power-leaves.result ≡ 2 ^ height (size c)
 first_leaf c = c.power-leaves.ensures ∙ ap (λ (h : ℕ). 2 ^ h) c.height.ensures
 
--- The leaves have numbers that the code can count to.
-few : (c : After-power-leaves) → 2 * c.power-leaves.result ≤ length c.args.counts.now
-few c = omega (arith, first_leaf c, c.requires.room)
-
 -- The leaf of a turn has its slots in the sheet.
 leaf : (c : In-loop-k)
     → let s = c.leaf_slots-s.result in s * (c.loop-k.k - c.power-leaves.result) + s ≤ slots (size (goal.at.In-loop-k c).After-power-leaves)
 leaf c =
-    leaf_room (size (goal.at.In-loop-k c).After-power-leaves) c.loop-k.k c.leaf_slots-s.ensures (first_leaf (goal.at.In-loop-k c).After-power-leaves) c.loop-k.invariant.0 (omega arith)
+    leaf_room (size (goal.at.In-loop-k c).After-power-leaves) c.loop-k.k c.leaf_slots-s.ensures (first_leaf (goal.at.In-loop-k c).After-power-leaves) c.loop-k.auto.k (omega arith)
 
 pub power-leaves-requires : goal.power-leaves-requires
 power-leaves-requires c = omega (arith, height_most c.args.size.m 32 (omega arith) (omega arith))
-
-pub loop-k-init : goal.loop-k-init
-loop-k-init c = (omega arith, omega arith, filled_none)
-
-pub overflow_mul-leaves : goal.overflow_mul-leaves
-overflow_mul-leaves c = omega (arith, few (goal.at.overflow_mul-leaves c).After-power-leaves)
-
-pub overflow_sub-k : goal.overflow_sub-k
-overflow_sub-k c = omega (arith, c.loop-k.invariant.0)
 
 pub overflow_mul-s : goal.overflow_mul-s
 overflow_mul-s c = omega (arith, leaf c, slots_le (size (goal.at.overflow_mul-s c).After-power-leaves))
@@ -51,22 +38,9 @@ overflow_cast-counts c =
     let most : c.entries_in.result ≤ s.result = rw c.entries_in.ensures (slots_few length_additive s.result _) in
     omega (arith, most, s.ensures, leaf_slots_most (size (goal.at.overflow_cast-counts c).After-power-leaves) (omega arith))
 
-pub offset_bounds-counts-k : goal.offset_bounds-counts-k
-offset_bounds-counts-k c = omega (arith, few (goal.at.offset_bounds-counts-k c).After-power-leaves)
-
-pub bounds-counts-k : goal.bounds-counts-k
-bounds-counts-k c = omega (arith, few (goal.at.bounds-counts-k c).After-power-leaves, c.loop-k.invariant.2.kept)
-
-pub overflow_add-k : goal.overflow_add-k
-overflow_add-k c = omega (arith, few (goal.at.overflow_add-k c).After-power-leaves)
-
-pub loop-k-preserved : goal.loop-k-preserved
-loop-k-preserved c =
-    (omega arith, omega arith, filled_next c.loop-k.invariant.2 (omega arith) (omega (arith, few (goal.at.loop-k-preserved c).After-power-leaves)) _ c.entries_in.ensures)
-
 pub returns : goal.returns
 returns c =
     let a = c.args in
     let all : c.loop-k.k ≡ 2 * c.power-leaves.result = omega arith in
     rw (← first_leaf (goal.at.returns c).After-power-leaves)
-    (filled_by (λ k. rw (c.leaf_slots-s.ensures, first_leaf (goal.at.returns c).After-power-leaves) (sym (number_leaf length (size (goal.at.returns c).After-power-leaves) a.slots.now k))) (rw all at c.loop-k.invariant.2))
+    (filled_by (λ k. rw (c.leaf_slots-s.ensures, first_leaf (goal.at.returns c).After-power-leaves) (sym (number_leaf length (size (goal.at.returns c).After-power-leaves) a.slots.now k))) (rw all at c.loop-k.invariant))

@@ -1,9 +1,6 @@
--- `entries_in` meets its contract. The loop's invariant: the first i slots have so many entries.
-use mathlib.Core.Path.{◌≡◌, refl}
-use Prim.Native.Nat.{◌+◌, ◌<◌}
-use native.Mathlib.Omega.{arith}
-use lib.ListN.{length, take, drop, length-take, length-drop}
-use lib.Seq.{get_or-drop}
+-- `entries_in` meets its contract. The loop's invariant: the slots seen so far have so many entries.
+use Rattle.std.proofs.Common.{◌≡◌, refl, ◌+◌, length, take, drop, length-take, length-drop, get_or-drop, arith}
+use Rattle.std.proofs.lemmas.List.Edits.{get_or-between}
 use Rattle.store_layout.specs.Leaf.{nonzero}
 use Rattle.store_layout.proofs.LeafLaws.{nonzero_length, number_next}
 use Rattle.store_sums.proofs.entries_in.Goals.{After-entry_in-entries}
@@ -12,26 +9,24 @@ use Rattle.store_sums.proofs.entries_in.Goals as goal
 -- With the entry of the next slot.
 next : (c : After-entry_in-entries)
     → let a = c.args in
-    c.loop-i.entries + c.entry_in-entries.result ≡ length (nonzero (take (c.loop-i.i + 1) (drop a.from a.slots.now)))
+    c.loop-slot.entries + c.entry_in-entries.result ≡ length (nonzero (take (c.loop-slot.slot-index + 1) (drop a.from a.slots.now)))
 next c =
     let a = c.args in
+    let i = c.loop-slot.slot-index in
     let slots = drop a.from a.slots.now in
-    let inside : c.loop-i.i < length slots = omega (arith, length-drop a.from a.slots.now) in
-    rw (number_next slots c.loop-i.i inside, get_or-drop a.from a.slots.now c.loop-i.i 0)
-    (omega (arith, c.loop-i.invariant.1, c.entry_in-entries.ensures))
+    rw (number_next slots i (omega (arith, length-drop a.from a.slots.now)), get_or-drop a.from a.slots.now i 0)
+    (omega (arith, c.loop-slot.invariant, rw (get_or-between a.slots.now a.from (a.from + a.len) i 0 (omega arith)) at c.entry_in-entries.ensures))
 
-pub loop-i-init : goal.loop-i-init
+pub loop-slot-init : goal.loop-slot-init
 unfolding nonzero
-loop-i-init c = (omega arith, refl)
+loop-slot-init c = refl
 
 pub overflow_add-entries : goal.overflow_add-entries
 overflow_add-entries c =
     let a = c.args in
+    let n = c.loop-slot.slot-index + 1 in
     let slots = drop a.from a.slots.now in
-    omega (arith, next c, nonzero_length (take (c.loop-i.i + 1) slots), length-take (c.loop-i.i + 1) slots)
+    omega (arith, next c, nonzero_length (take n slots), length-take n slots)
 
-pub loop-i-preserved : goal.loop-i-preserved
-loop-i-preserved c = (omega arith, next c)
-
-pub returns : goal.returns
-returns c = let all : c.loop-i.i ≡ c.args.len = omega arith in rw all at c.loop-i.invariant.1
+pub loop-slot-preserved : goal.loop-slot-preserved
+loop-slot-preserved c = next c

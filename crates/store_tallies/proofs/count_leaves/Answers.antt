@@ -11,7 +11,6 @@ use Rattle.store_scoring.specs.Scoring.{tally}
 use Rattle.store_scoring.specs.ScoringLaws.{tally_slots}
 use Rattle.store_sums.specs.SumLaws.{slots_leaf, number_leaf, leaf_room}
 use Rattle.store_sums.specs.UpdatingLaws.{filled_none, filled_next, filled_by}
-use Rattle.store_tallies.proofs.count_leaves.Invariants.{counted}
 use Rattle.store_tallies.proofs.count_leaves.Goals.{After-power-leaves, In-loop-k}
 use Rattle.store_tallies.proofs.count_leaves.Goals as goal
 
@@ -36,7 +35,7 @@ pub power-leaves-requires : goal.power-leaves-requires
 power-leaves-requires c = omega (arith, height_most c.args.size.m 32 (omega arith) (omega arith))
 
 pub loop-k-init : goal.loop-k-init
-loop-k-init c = (omega arith, omega arith, filled_none)
+loop-k-init c = filled_none
 
 pub overflow_sub-k : goal.overflow_sub-k
 overflow_sub-k c = omega (arith, (leaf c).0)
@@ -61,11 +60,10 @@ overflow_cast-tallies c =
     omega (arith, few, s.ensures, leaf_slots_most (size (goal.at.overflow_cast-tallies c).After-power-leaves) (omega arith))
 
 pub loop-k-preserved : goal.loop-k-preserved
-loop-k-preserved c =
-    (omega arith, omega arith, filled_next c.loop-k.invariant.2 (omega arith) (omega arith) _ c.tally_of.ensures)
+loop-k-preserved c = filled_next c.loop-k.invariant (omega arith) (omega arith) _ c.tally_of.ensures
 
 pub returns : goal.returns
 returns c =
     let a = c.args in
     let all : c.loop-k.k ≡ a.end = omega arith in
-    filled_by (λ k. rw (c.leaf_slots-s.ensures, first_leaf (goal.at.returns c).After-power-leaves) (sym (number_leaf tally (size (goal.at.returns c).After-power-leaves) a.slots.now k))) (rw all at c.loop-k.invariant.2)
+    filled_by (λ k. rw (c.leaf_slots-s.ensures, first_leaf (goal.at.returns c).After-power-leaves) (sym (number_leaf tally (size (goal.at.returns c).After-power-leaves) a.slots.now k))) (rw all at c.loop-k.invariant)

@@ -33,16 +33,16 @@ leaf : (c : In-loop-k)
     let s = c.leaf_slots-s.result in
     s * (k - c.power-leaves.result) + s ≤ slots (size (goal.at.In-loop-k c).After-power-leaves)
 leaf c =
-    leaf_room (size (goal.at.In-loop-k c).After-power-leaves) c.loop-k.k c.leaf_slots-s.ensures (first_leaf (goal.at.In-loop-k c).After-power-leaves) c.loop-k.invariant.0 (omega (arith, first_leaf (goal.at.In-loop-k c).After-power-leaves))
+    leaf_room (size (goal.at.In-loop-k c).After-power-leaves) c.loop-k.k c.leaf_slots-s.ensures (first_leaf (goal.at.In-loop-k c).After-power-leaves) c.loop-k.auto.k (omega (arith, first_leaf (goal.at.In-loop-k c).After-power-leaves))
 
 pub power-leaves-requires : goal.power-leaves-requires
 power-leaves-requires c = omega (arith, height_most c.args.size.m 32 (omega arith) (omega arith))
 
 pub loop-k-init : goal.loop-k-init
-loop-k-init c = (omega arith, omega arith, agrees_none _ _ c.args.numbers.now)
+loop-k-init c = agrees_none _ _ c.args.numbers.now
 
-pub overflow_mul-leaves : goal.overflow_mul-leaves
-overflow_mul-leaves c = omega (arith, first_leaf (goal.at.overflow_mul-leaves c).After-power-leaves, c.requires.room)
+pub overflow_mul-k-end : goal.overflow_mul-k-end
+overflow_mul-k-end c = omega (arith, first_leaf (goal.at.overflow_mul-k-end c).After-power-leaves, c.requires.room)
 
 pub count_at-requires : goal.count_at-requires
 count_at-requires c = omega (arith, first_leaf (goal.at.count_at-requires c).After-power-leaves, c.requires.room)
@@ -70,18 +70,12 @@ returns-then-count_at-tally_of c =
     fails
     (λ all. c.if-count_at-tally_of.true (c.count_at.ensures ∙ all k (omega (arith, first_leaf (goal.at.returns-then-count_at-tally_of c).After-power-leaves)) (omega (arith, first_leaf (goal.at.returns-then-count_at-tally_of c).After-power-leaves)) ∙ sym (c.tally_of.ensures ∙ is)))
 
-pub overflow_add-k : goal.overflow_add-k
-overflow_add-k c = omega (arith, first_leaf (goal.at.overflow_add-k c).After-power-leaves, c.requires.room)
-
 pub loop-k-preserved : goal.loop-k-preserved
-loop-k-preserved c = (
-  omega arith,
-  omega arith,
-  agrees_next _ _ c.args.numbers.now c.loop-k.k c.loop-k.invariant.2
-      (sym c.count_at.ensures ∙ c.if-count_at-tally_of.false ∙ c.tally_of.ensures),
-)
+loop-k-preserved c =
+    agrees_next _ _ c.args.numbers.now c.loop-k.k c.loop-k.invariant
+    (sym c.count_at.ensures ∙ c.if-count_at-tally_of.false ∙ c.tally_of.ensures)
 
 pub returns : goal.returns
 returns c =
     let is = right (size (goal.at.returns c).After-power-leaves) c.args.slots.now c.leaf_slots-s.ensures (first_leaf (goal.at.returns c).After-power-leaves) in
-    (λ e k from before. c.loop-k.invariant.2 k (omega (arith, first_leaf (goal.at.returns c).After-power-leaves)) (omega (arith, first_leaf (goal.at.returns c).After-power-leaves)) ∙ is k, λ all. refl)
+    (λ e k from before. c.loop-k.invariant k (omega (arith, first_leaf (goal.at.returns c).After-power-leaves)) (omega (arith, first_leaf (goal.at.returns c).After-power-leaves)) ∙ is k, λ all. refl)

@@ -1,6 +1,6 @@
 -- `leaves_have_tallies` meets its contract. The loop's invariant: the leaves before k have their tallies.
 use mathlib.Core.List.{List}
-use Prim.Native.Nat.{ℕ, ◌-◌, ◌*◌, ◌≤◌}
+use Prim.Native.Nat.{ℕ, ◌-◌, ◌*◌}
 use lib.ListN.{take, drop}
 use Rattle.tree_sizes.specs.Sizes.{slots}
 use Rattle.store_layout.specs.Leaf.{nonzero}
@@ -13,7 +13,4 @@ abbrev pub counted : List ℕ → ℕ → ℕ → ℕ → ℕ
 counted slots s leaves k = tally (nonzero (take s (drop (s * (k - leaves)) slots)))
 
 abbrev pub invariant-loop-k : goal.invariant-loop-k
-invariant-loop-k l = (l.leaves ≤ l.k) × (l.k ≤ 2 * l.leaves) × Agrees (counted l.slots l.s l.leaves) l.leaves l.k l.numbers
-
-abbrev pub decreases-loop-k : goal.decreases-loop-k
-decreases-loop-k l = 2 * l.leaves - l.k
+invariant-loop-k l = Agrees (counted l.slots l.s l.leaves) l.leaves l.k l.numbers

@@ -4,6 +4,3 @@ use Rattle.store_tallies.proofs.tally_before.Given as goal
 
 abbrev pub invariant-loop-levels : goal.invariant-loop-levels
 invariant-loop-levels l = OnPath l.initial.levels l.tallies l.leaf l.levels l.k l.sum
-
-abbrev pub decreases-loop-levels : goal.decreases-loop-levels
-decreases-loop-levels l = l.levels

@@ -1,7 +1,7 @@
 -- `counts_are_shaped` meets its contract.
 use Rattle.std.proofs.Common.{sym, arith}
 use Rattle.store_test.specs.Ready.{CountsTestReady}
-use Rattle.store_test.specs.StoreCheck.{SizeRead, two_counts, counts_many, counts_less, counts_more, height_bound, counts_room, root_ready, counts_tree, counts_rest}
+use Rattle.store_test.specs.StoreCheck.{SizeRead, counts_many, counts_less, counts_more, height_bound, root_ready, counts_tree, counts_rest}
 use Rattle.store_test.proofs.counts_are_shaped.Goals.{After-count_at-n, After-height-h}
 use Rattle.store_test.proofs.counts_are_shaped.Goals as goal
 
@@ -20,13 +20,6 @@ values c =
       most = omega (arith, c.if-greatest_size-m.false, c.greatest_size.ensures);
       h_is = c.height-h.ensures;
     }
-
-pub count_at-m-requires : goal.count_at-m-requires
-count_at-m-requires c = omega (arith, two_counts c.requires)
-
-pub count_at-n-requires : goal.count_at-n-requires
-count_at-n-requires c =
-    record { inside = two_counts c.requires }
 
 pub returns-then-entries-n : goal.returns-then-entries-n
 returns-then-entries-n c = sym (counts_many (ready (goal.at.returns-then-entries-n c).After-count_at-n) c.count_at-m.ensures c.count_at-n.ensures c.if-entries-n.true)
@@ -52,10 +45,6 @@ returns-then-not-tree_is_balanced c =
 pub power-requires : goal.power-requires
 power-requires c =
     omega (arith, height_bound (ready (goal.at.power-requires c).After-count_at-n) (values (goal.at.power-requires c).After-height-h))
-
-pub overflow_mul-power : goal.overflow_mul-power
-overflow_mul-power c =
-    omega (arith, counts_room (ready (goal.at.overflow_mul-power c).After-count_at-n) (values (goal.at.overflow_mul-power c).After-height-h), c.power.ensures)
 
 pub returns : goal.returns
 returns c =

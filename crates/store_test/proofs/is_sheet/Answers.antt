@@ -1,11 +1,7 @@
 -- `is_sheet` meets its contract.
 use Rattle.std.proofs.Common.{sym, ◌∙◌}
-use Rattle.store_test.specs.StoreCheck.{counts_ready, slots_ready, sheet_broken, sheet_rest}
+use Rattle.store_test.specs.StoreCheck.{slots_ready, sheet_broken, sheet_rest}
 use Rattle.store_test.proofs.is_sheet.Goals as goal
-
-pub counts_are_shaped-requires : goal.counts_are_shaped-requires
-counts_are_shaped-requires c =
-    counts_ready c.requires.ready _ c.requires.counts
 
 pub returns-then-not-counts_are_shaped : goal.returns-then-not-counts_are_shaped
 returns-then-not-counts_are_shaped c =

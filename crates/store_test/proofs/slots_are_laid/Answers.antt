@@ -1,7 +1,7 @@
 -- `slots_are_laid` meets its contract.
 use Rattle.std.proofs.Common.{sym, arith}
 use Rattle.store_test.specs.Ready.{SlotsTestReady}
-use Rattle.store_test.specs.StoreCheck.{LeavesRead, first_count, height_fits, leaves_ready, slots_broken, slots_rest}
+use Rattle.store_test.specs.StoreCheck.{LeavesRead, height_fits, leaves_ready, slots_broken, slots_rest}
 use Rattle.store_test.proofs.slots_are_laid.Goals.{After-count_at-m, After-power-leaves}
 use Rattle.store_test.proofs.slots_are_laid.Goals as goal
 
@@ -17,10 +17,6 @@ values c = record {
   h_is = c.height-h.ensures;
   p_is = c.power-leaves.ensures;
 }
-
-pub count_at-m-requires : goal.count_at-m-requires
-count_at-m-requires c =
-    record { inside = first_count c.requires }
 
 pub power-leaves-requires : goal.power-leaves-requires
 power-leaves-requires c =

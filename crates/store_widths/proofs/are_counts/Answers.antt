@@ -1,14 +1,15 @@
 -- `are_counts` meets its contract.
-use mathlib.Core.Path.{◌∙◌}
-use Rattle.store_tally_copies.specs.CopyLaws.{first_other, first_zero}
+use Rattle.std.proofs.Common.{◌∙◌, ne_eqb}
+use Rattle.store_tally_copies.specs.CopyLaws.{first_other, first_zero, behind_first}
 use Rattle.store_widths.proofs.are_counts.Goals as goal
 
-pub returns-then-tallies-ne0 : goal.returns-then-tallies-ne0
-returns-then-tallies-ne0 c =
+pub returns-then-tallies-eq0 : goal.returns-then-tallies-eq0
+returns-then-tallies-eq0 c =
     let a = c.args in
-    first_other a.tallies.now a.counts.now c.requires.some c.if-tallies-ne0.true
+    rw (behind_first a.tallies.now, behind_first a.counts.now) at c.are_same.ensures
+    ∙ first_zero a.tallies.now a.counts.now c.requires.some c.if-tallies-eq0.true
 
-pub returns : goal.returns
-returns c =
+pub returns-else-tallies-eq0 : goal.returns-else-tallies-eq0
+returns-else-tallies-eq0 c =
     let a = c.args in
-    c.same_from.ensures ∙ first_zero a.tallies.now a.counts.now c.requires.some c.if-tallies-ne0.false
+    ne_eqb _ 0 c.if-tallies-eq0.false ∙ first_other a.tallies.now a.counts.now c.requires.some c.if-tallies-eq0.false

@@ -1,11 +1,6 @@
 -- `narrow` meets its contract. The loop's invariant: the first i numbers are copied.
-use Prim.Native.Nat.{◌-◌, ◌≤◌}
-use lib.ListN.{length}
 use Rattle.store_slices.specs.Pasted.{Pasted}
 use Rattle.store_widths.proofs.narrow.Given as goal
 
 abbrev pub invariant-loop-i : goal.invariant-loop-i
-invariant-loop-i l = (l.i ≤ length l.wide) × Pasted l.initial.narrow 0 l.wide l.i l.narrow
-
-abbrev pub decreases-loop-i : goal.decreases-loop-i
-decreases-loop-i l = length l.wide - l.i
+invariant-loop-i l = Pasted l.initial.narrow 0 l.wide l.i l.narrow

@@ -1,11 +1,6 @@
 -- `widen` meets its contract. The loop's invariant: the first i numbers are copied.
-use Prim.Native.Nat.{◌-◌, ◌≤◌}
-use lib.ListN.{length}
 use Rattle.store_slices.specs.Pasted.{Pasted}
 use Rattle.store_widths.proofs.widen.Given as goal
 
 abbrev pub invariant-loop-i : goal.invariant-loop-i
-invariant-loop-i l = (l.i ≤ length l.narrow) × Pasted l.initial.wide 0 l.narrow l.i l.wide
-
-abbrev pub decreases-loop-i : goal.decreases-loop-i
-decreases-loop-i l = length l.narrow - l.i
+invariant-loop-i l = Pasted l.initial.wide 0 l.narrow l.i l.wide

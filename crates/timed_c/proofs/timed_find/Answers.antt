@@ -7,4 +7,4 @@ returns-then-answer-lt2 c = handed_short _ _ _ _ _ c.if-answer-lt2.true
 
 pub returns : goal.returns
 returns c =
-    handed_done _ _ _ _ _ c.if-answer-lt2.false c.find.ensures c.returned.ensures c.hand.ensures
+    handed_done _ _ _ _ _ c.if-answer-lt2.false c.find.ensures c.into.ensures c.hand.ensures

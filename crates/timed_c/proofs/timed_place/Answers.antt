@@ -7,4 +7,4 @@ returns-then-answer-lt3 c = handed_short _ _ _ _ _ c.if-answer-lt3.true
 
 pub returns : goal.returns
 returns c =
-    handed_done _ _ _ _ _ c.if-answer-lt3.false c.place.ensures c.returned.ensures c.hand.ensures
+    handed_done _ _ _ _ _ c.if-answer-lt3.false c.place.ensures c.into.ensures c.hand.ensures

@@ -2,4 +2,4 @@
 use Rattle.tree_counts.proofs.+rebuild_above.Given as goal
 
 abbrev pub decreases-rebuild_above : goal.decreases-rebuild_above
-decreases-rebuild_above l = l.levels
+decreases-rebuild_above l = l.here.levels

@@ -1,65 +1,55 @@
 -- `tree_counts::rebuild_halves` meets its contract.
 use mathlib.Core.Path.{◌≡◌, ◌∙◌}
-use Prim.Native.Nat.{◌+◌, ◌-◌, ◌*◌, ◌<◌}
+use Prim.Native.Nat.{suc, ◌-◌}
 use native.Mathlib.Omega.{arith}
 use lib.ListN.{length, length-set}
-use Rattle.tree_counts.specs.Rebuild.{RebuildReady}
-use Rattle.tree_counts.specs.RebuildLaws.{Bounds, bounds, halves_can, candidate_fits, halves_done, halves_ended}
+use Rattle.tree_counts.specs.Rebuild.{HalveReady, RebuildReady}
+use Rattle.tree_counts.specs.RebuildLaws.{bounds, above_leaves, halves_can, candidate_fits, halves_done, halves_ended}
 use Rattle.tree_counts.proofs.rebuild_halves.Goals.{After-rebuild, Start}
 use Rattle.tree_counts.proofs.rebuild_halves.Goals as goal
 
-limits : (c : Start) → let a = c.args in Bounds a.size.m a.depth a.k (length a.counts.now)
-limits c = bounds c.requires.0
+-- above the leaves
+above : (c : Start) → let a = c.args in RebuildReady a.size.m (suc (a.here.levels - 1)) a.here.depth a.here.k a.here.n (length a.counts.now)
+above c = above_leaves c.requires.above c.requires.ready
 
-less : (c : Start) → c.args.b < c.args.n
-less c = candidate_fits c.requires.0 c.args.b c.requires.1
-
-halves : (c : Start) →
-    let a = c.args in
-    RebuildReady a.size.m a.levels (a.depth + 1) (2 * a.k) a.b (length a.counts.now)
-    × RebuildReady a.size.m a.levels (a.depth + 1) (2 * a.k + 1) (a.n - a.b) (length a.counts.now)
-halves c = halves_can c.requires.0 c.args.b c.requires.1
+halving : (c : Start) → HalveReady c.args.here c.args.b
+halving c =
+    let l = bounds (above c) in
+    record {
+      above = omega (arith, c.requires.above);
+      shallow = omega (arith, l.shallow);
+      small = omega (arith, l.below);
+      inside = omega (arith, candidate_fits (above c) c.args.b c.requires.candidate);
+    }
 
 -- the length is kept
-kept : (c : After-rebuild) →
-    length c.rebuild.new.counts ≡ length c.args.counts.now
-kept c =
-    let a = c.args in
-    c.rebuild.auto.counts ∙ length-set a.counts.now a.k a.n
+kept : (c : After-rebuild) → length c.rebuild.new.counts ≡ length c.args.counts.now
+kept c = let a = c.args in c.rebuild.auto.counts ∙ length-set a.counts.now a.here.k a.here.n
 
-pub offset_bounds-counts-k : goal.offset_bounds-counts-k
-offset_bounds-counts-k c = omega (arith, limits (goal.at.offset_bounds-counts-k c).Start)
+pub left-requires : goal.left-requires
+left-requires c = halving (goal.at.left-requires c).Start
 
-pub bounds-counts-k : goal.bounds-counts-k
-bounds-counts-k c = omega (arith, limits (goal.at.bounds-counts-k c).Start)
-
-pub overflow_sub-rest : goal.overflow_sub-rest
-overflow_sub-rest c = omega (arith, less (goal.at.overflow_sub-rest c).Start)
-
-pub overflow_mul-left : goal.overflow_mul-left
-overflow_mul-left c = omega (arith, limits (goal.at.overflow_mul-left c).Start)
-
-pub overflow_add-right : goal.overflow_add-right
-overflow_add-right c = omega (arith, limits (goal.at.overflow_add-right c).Start)
-
-pub overflow_add-below : goal.overflow_add-below
-overflow_add-below c = omega (arith, limits (goal.at.overflow_add-below c).Start)
+pub right-requires : goal.right-requires
+right-requires c = halving (goal.at.right-requires c).Start
 
 pub rebuild-requires : goal.rebuild-requires
-rebuild-requires c = rw length-set (halves (goal.at.rebuild-requires c).Start).0
+rebuild-requires c =
+    rw (c.left.ensures, length-set) (halves_can (above (goal.at.rebuild-requires c).Start) c.args.b c.requires.candidate).0
 
-pub rebuild-requires-in-Done : goal.rebuild-requires-in-Done
-rebuild-requires-in-Done c =
-    rw (kept (goal.at.rebuild-requires-in-Done c).After-rebuild) (halves (goal.at.rebuild-requires-in-Done c).Start).1
+pub rebuild-requires-2 : goal.rebuild-requires-2
+rebuild-requires-2 c =
+    rw (c.right.ensures, kept (goal.at.rebuild-requires-2 c).After-rebuild)
+    (halves_can (above (goal.at.rebuild-requires-2 c).Start) c.args.b c.requires.candidate).1
 
-pub returns-in-Done : goal.returns-in-Done
-returns-in-Done c =
+pub returns : goal.returns
+returns c =
     let a = c.args in
-    halves_done a.size.m a.levels a.depth a.k a.n a.b a.tape.now a.at a.counts.now c.rebuild.result
-    c.rebuild-in-Done.result _ _ _ c.rebuild.ensures c.in-Done.is c.rebuild-in-Done.ensures
+    halves_done a.size.m (a.here.levels - 1) a.here.depth a.here.k a.here.n a.b a.tape.now a.at a.counts.now c.rebuild.result
+    c.rebuild-2.result _ _ _ (rw c.left.ensures at c.rebuild.ensures) c.in_ok-mid.was (rw c.right.ensures at c.rebuild-2.ensures)
 
-pub returns-in-Ended : goal.returns-in-Ended
-returns-in-Ended c =
+pub returns-in_err-mid : goal.returns-in_err-mid
+returns-in_err-mid c =
     let a = c.args in
-    halves_ended a.size.m a.levels a.depth a.k a.n a.b a.tape.now a.at a.counts.now c.rebuild.result
-    _ _ c.rebuild.ensures c.in-Ended.is
+    rw c.from_residual.ensures
+    (halves_ended a.size.m (a.here.levels - 1) a.here.depth a.here.k a.here.n a.b a.tape.now a.at a.counts.now c.rebuild.result
+    _ _ (rw c.left.ensures at c.rebuild.ensures) c.in_err-mid.was)

@@ -10,12 +10,12 @@ use Rattle.tree_rules.proofs.grow.Goals as goal
 pub overflow_add-result : goal.overflow_add-result
 overflow_add-result c =
     let a = c.args in
-    omega (arith, (draw_sound 2 a.tape.now a.at _ _ (sym c.draw.ensures ∙ c.in-Face.is)).below)
+    omega (arith, (draw_sound 2 a.tape.now a.at _ _ (sym c.draw.ensures ∙ c.in_ok-face.was)).below)
 
-pub returns-in-Face : goal.returns-in-Face
+pub returns : goal.returns
 unfolding grow stepped_as
-returns-in-Face c = rw (run_face 2 _ _ _ _ _ (sym c.draw.ensures ∙ c.in-Face.is), run_done)
+returns c = rw (run_face 2 _ _ _ _ _ (sym c.draw.ensures ∙ c.in_ok-face.was), run_done)
 
-pub returns-in-Ended : goal.returns-in-Ended
+pub returns-in_err-face : goal.returns-in_err-face
 unfolding grow stepped_as
-returns-in-Ended c = rw (run_ended 2 _ _ _ (sym c.draw.ensures ∙ c.in-Ended.is))
+returns-in_err-face c = rw (c.from_residual.ensures, run_ended 2 _ _ _ (sym c.draw.ensures ∙ c.in_err-face.was))

@@ -4,7 +4,6 @@ use Prim.Native.Nat.{ℕ, suc, ◌+◌, ◌-◌, ◌^◌, ◌≤◌}
 use native.Mathlib.Omega.{arith}
 use native.Mathlib.Nat.{mul-pos}
 use lib.ListN.{length}
-use lib.Pow.{pow_pos}
 use Rattle.tree_shapes.specs.Words.{tree_words, IsNumber, Put}
 use Rattle.tree_shapes.specs.WordsLaws.{put_none, NodeReady, node_ready, left_room, right_room, put_node, put_length}
 use Rattle.tree_shapes.proofs.+put_words.Goals.{After-tree_count-count, Else-levels-eq0}
@@ -48,10 +47,6 @@ nonzero_rem-rest t c = mul-pos (ready t c).above.some (ready t c).above.some
 
 pub nonzero_div-k : goal.nonzero_div-k
 nonzero_div-k t c = mul-pos (ready t c).above.some (ready t c).above.some
-
-pub put_face-left-requires : goal.put_face-left-requires
-put_face-left-requires t c =
-    record { inside = omega (arith, room t (goal.at.put_face-left-requires t c).Else-levels-eq0, pow_pos (suc (c.args.levels - 1))); small = (ready t (goal.at.put_face-left-requires t c).After-tree_count-count).face_small }
 
 pub nonzero_div-first : goal.nonzero_div-first
 nonzero_div-first t c = (ready t c).above.some

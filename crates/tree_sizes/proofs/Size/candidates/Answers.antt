@@ -1,19 +1,20 @@
 -- `Size::candidates` meets its contract.
-use mathlib.Core.Path.{◌≡◌, ap}
+use mathlib.Core.Path.{◌≡◌, ap, ◌∙◌}
 use Prim.Native.Nat.{ℕ, ◌*◌, ◌^◌, ◌≤◌, ◌<◌}
 use native.Mathlib.Omega.{arith}
 use Rattle.tree_sizes.specs.Sizes.{candidates, ceil_div, digits}
-use Rattle.tree_sizes.proofs.SizeLaws.{digits_most, step_most, step_pos}
+use Rattle.tree_sizes.proofs.SizeLaws.{digits_most, step_most, step_pos, div_ceil_is}
+use Rattle.tree_sizes.proofs.Size.candidates.Goals.{After-power}
 use Rattle.tree_sizes.proofs.Size.candidates.Goals as goal
 
 -- The value of the local `step`.
-abbrev step : goal.After-power → ℕ
+abbrev step : After-power → ℕ
 step c = 4 * c.digits.result * c.power.result
 
-step_is : (c : goal.After-power) → step c ≡ 4 * digits c.args.self.m * 2 ^ c.args.depth
+step_is : (c : After-power) → step c ≡ 4 * digits c.args.self.m * 2 ^ c.args.depth
 step_is c = cc
 
-step_range : (c : goal.After-power) → (0 < step c) × (step c ≤ 2 ^ 38)
+step_range : (c : After-power) → (0 < step c) × (step c ≤ 2 ^ 38)
 step_range c =
     let a = c.args in
     rw (step_is c)
@@ -25,15 +26,11 @@ overflow_mul-step c = omega (arith, digits_most c.args.self.m 32 (omega arith) (
 pub overflow_mul-step-2 : goal.overflow_mul-step-2
 overflow_mul-step-2 c = omega (arith, step_range c)
 
-pub overflow_sub-result : goal.overflow_sub-result
-overflow_sub-result c = omega (arith, step_range c)
-
-pub overflow_add-result : goal.overflow_add-result
-overflow_add-result c = omega (arith, step_range c.before)
-
-pub nonzero_div-result : goal.nonzero_div-result
-nonzero_div-result c = omega (arith, step_range c.before)
+pub div_ceil-requires : goal.div_ceil-requires
+div_ceil-requires c = omega (arith, step_range (goal.at.div_ceil-requires c).After-power)
 
 pub returns : goal.returns
-unfolding candidates ceil_div
-returns c = ap (ceil_div c.args.self.m) (step_is c.before)
+unfolding candidates
+returns c =
+    let at = goal.at.returns c in
+    c.div_ceil.ensures ∙ div_ceil_is _ _ (step_range at.After-power).0 ∙ ap (ceil_div c.args.self.m) (step_is at.After-power)

@@ -1,0 +1,16 @@
+-- `are_same` meets its contract.
+use Rattle.std.proofs.Common.{rules, ◌≡◌, ℕ, bit_or, bit_xor}
+use Rattle.std.specs.List.{fold, zip}
+use Rattle.std.proofs.lemmas.Iterator.{YieldsList-from_slice, YieldsList-from_zip}
+use Rattle.std.proofs.lemmas.Iterator.Consumers.{fold_from_yields_List}
+use Rattle.store_zeros.specs.SameLaws.{same_joined}
+use Rattle.store_widths.proofs.are_same.Goals as goal
+
+pub returns : goal.returns
+returns c =
+    let a = c.args in
+    let joined : c.fold-joined.result ≡ fold (λ (j : ℕ) (p : ℕ × ℕ). bit_or j (bit_xor p.0 p.1)) 0 (zip a.tallies.now a.counts.now) =
+    fold_from_yields_List _ (λ (j : ℕ) (p : ℕ × ℕ). bit_or j (bit_xor p.0 p.1)) 0 c.fold-joined.result c.fold-joined.ensures.ran
+    (YieldsList-from_zip (YieldsList-from_slice a.tallies.now (cc)) (YieldsList-from_slice a.counts.now (cc)))
+    (λ j x k q called. search rules) in
+    rw joined (same_joined a.tallies.now a.counts.now 0 c.requires)
