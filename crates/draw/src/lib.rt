@@ -3,7 +3,7 @@
 #![tactic(auto)]
 
 ghost use Rattle.std.specs.Prelude.{◌≡◌};
-ghost use Rattle.draw.specs.Draw.{draw_at, tape_place_after, face_of};
+ghost use Rattle.draw.specs.Draw.{draw_at, tape_place_after, face_of, drawn_of};
 
 // What a draw gives: a face, and the place after the last word read. Where the tape ended first, a draw gives none.
 #[derive(Clone, Copy)]
@@ -60,12 +60,18 @@ pub fn draw_and_advance(tape: &[u32], place: &mut TapePlace, m: usize) -> Option
     drawn.map(|d| d.face)
 }
 
+// The draw with this face and the place after it; none where the tape ended.
+fn with_place(face: Option<usize>, after: usize) -> Option<Drawn>
+    ensures { result ≡ drawn_of after face }
+{
+    face.map(|face| Drawn { face, next: after })
+}
+
 // The same through plain parameters, so that a caller needs no reference to a struct: the sheet draws by this.
 pub fn draw(tape: &[u32], at: usize, m: usize) -> Option<Drawn>
     ensures { result ≡ draw_at m tape.now at }
 {
     let mut place = TapePlace { at };
     let face = draw_and_advance(tape, &mut place, m);
-    let next = place.at;
-    face.map(|face| Drawn { face, next })
+    with_place(face, place.at)
 }

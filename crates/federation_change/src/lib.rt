@@ -1,5 +1,5 @@
-// A change of the federation's sheet that no cause before 7 refuses, carried out. Its lists of up to 65,538 entries stand on the stack of its own
-// functions, and not of those that the clubs call.
+// A change of the federation's sheet that no cause before 7 refuses, carried out. Its lists of up to 65,538 entries stand on the stack of instances
+// of `write_by_list` that no other crate calls, so on that of no call of the clubs.
 #![tactic(auto)]
 
 ghost use Rattle.std.specs.Prelude.{◌≡◌, [], ◌≤◌, length, get_or};

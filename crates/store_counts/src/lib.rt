@@ -39,14 +39,16 @@ fn write_table(counts: &mut [u32], work: &[u32])
     }
 }
 
-// Copies what is no count of a range: the size parameter, and the numbers from `start` on.
+// Copies what is no count of a range: the size parameter, and the numbers from `start` on. By `copy_from_slice` an archive for C would need memmove.
 fn copy_rest(from: &[u32], start: usize, to: &mut [u32])
     requires lengths { length to.old ≡ length from.now }
     requires inside { (0 < start) × (start ≤ length from.now) }
     ensures { RestCopied start (length from.now) from.now to.new }
 {
     to[0] = from[0];
-    to[start..].copy_from_slice(&from[start..]);
+    for i in start..from.len() {
+        to[i] = from[i];
+    }
 }
 
 // Copies the counts of a sheet of this size into a work array, by range number.

@@ -21,13 +21,15 @@ pub fn are_counts(tallies: &[u32], counts: &[u32]) -> bool
     tallies[0] == 0 && tallies[1..] == counts[1..]
 }
 
-// Copies the numbers from 1 on; number 0 is not written.
+// Copies the numbers from 1 on; number 0 is not written. By `copy_from_slice` an archive for C would need memmove.
 pub fn copy_ranges(to: &mut [u32], from: &[u32])
     requires lengths { length to.old ≡ length from.now }
     requires some { 0 < length to.old }
     ensures { to.new ≡ get_or to.old 0 0 ∷ drop 1 from.now }
 {
-    to[1..].copy_from_slice(&from[1..]);
+    for k in 1..from.len() {
+        to[k] = from[k];
+    }
 }
 
 // Makes the tallies the counts, but 0 at number 0.

@@ -1,6 +1,5 @@
 -- `read_table` meets its contract. The loop's invariant: the counts of the first i ranges are copied.
 use mathlib.Core.Path.{◌≡◌}
-use Prim.Native.Nat.{◌-◌, ◌≤◌}
 use lib.ListN.{length}
 use Rattle.store_order.specs.Copied.{put_from}
 use Rattle.store_order.specs.Places.{places_from}
