@@ -120,8 +120,10 @@ pub fn rebuild_halves(
     ensures { RebuiltAs (run_at (rules.rebuild_halves size.m (here.levels - 1) here.depth here.n b) tape.now at) result here.k here.n counts.old counts.new }
 {
     counts[here.k] = here.n as u32;
-    let mid = rebuild(size, here.left(b), counts, tape, at)?;
-    rebuild(size, here.right(b), counts, tape, mid)
+    let left = here.left(b);
+    let right = here.right(b);
+    let mid = rebuild(size, left, counts, tape, at)?;
+    rebuild(size, right, counts, tape, mid)
 }
 
 // Everything rebuilt for n entries: all counts become zero, then the size parameter and the ranges are written.

@@ -1,6 +1,7 @@
 -- `insert` meets its contract.
 use mathlib.Core.Path.{◌≡◌, refl, sym, ◌∙◌}
 use mathlib.Core.Logic.{◌≢◌}
+use native.Mathlib.Omega.{arith}
 use Rattle.tree_rules.specs.declared.Change.TheVariants.{Insert}
 use Rattle.store_keys.specs.Key.{key}
 use Rattle.call_outcomes.specs.Causes.{accept, looked_at, decision}
@@ -32,7 +33,7 @@ decided : (c : Else-sheet-ge65536)
     → let a = c.args in
     decision (timed federation) (insert a.entry) (timed_store_of a.slots.now a.counts.now a.tallies.now a.balance.now) ≡ accept (sheet (goal.at.Else-sheet-ge65536 c).In_ok-sheet).contents
 decided c =
-    insert_decided federation_ready (sheet (goal.at.Else-sheet-ge65536 c).In_ok-sheet) _ (some_key (goal.at.Else-sheet-ge65536 c).Else-key-eq0) _ c.search.ensures _ c.in-Err.is c.if-sheet-ge65536.false
+    insert_decided federation_ready (sheet (goal.at.Else-sheet-ge65536 c).In_ok-sheet) _ (some_key (goal.at.Else-sheet-ge65536 c).Else-key-eq0) _ c.search.ensures _ c.in-Err.is (omega arith)
 
 plainly_is : (c : Else-sheet-ge65536)
     → let e = c.args.entry in
@@ -56,7 +57,7 @@ returns-in-Ok c =
 
 pub returns-then-sheet-ge65536 : goal.returns-then-sheet-ge65536
 returns-then-sheet-ge65536 c =
-    insert_full federation_ready (sheet (goal.at.returns-then-sheet-ge65536 c).In_ok-sheet) _ (some_key (goal.at.returns-then-sheet-ge65536 c).Else-key-eq0) _ c.search.ensures _ c.in-Err.is _ c.if-sheet-ge65536.true
+    insert_full federation_ready (sheet (goal.at.returns-then-sheet-ge65536 c).In_ok-sheet) _ (some_key (goal.at.returns-then-sheet-ge65536 c).Else-key-eq0) _ c.search.ensures _ c.in-Err.is _ (omega arith)
 
 pub change-requires : goal.change-requires
 change-requires c =

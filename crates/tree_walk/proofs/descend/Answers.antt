@@ -1,4 +1,5 @@
 -- `tree_walk::descend` meets its contract. The loop's invariant: the run of the walk is that from the present range on.
+use Rattle.std.proofs.Common.{rules}
 use mathlib.Core.Path.{◌≡◌, refl, ap, ◌∙◌}
 use Rattle.std.specs.Prelude.{Some}
 use Prim.Native.Nat.{suc, ◌-◌, ◌*◌}
@@ -61,7 +62,7 @@ loop-here-smaller c =
 pub loop-here-preserved : goal.loop-here-preserved
 loop-here-preserved c =
     let h = c.loop-here in (
-      pass h.here h.invariant.0 c.if-here-eq0.false (seen (goal.at.loop-here-preserved c).After-visit) _ _ _ (c.in_ok-visited.was ∙ ap Some c.in-Pass.is) (ap (λ r. r.n) c.after.ensures) c.half-here.ensures,
+      pass h.here h.invariant.0 c.if-here-eq0.false (seen (goal.at.loop-here-preserved c).After-visit) _ _ _ (search rules) (ap (λ r. r.n) c.after.ensures) c.half-here.ensures,
       half_counted _ h.here c.half-here.result _ h.c c.half-here.ensures c.half_candidates-c.ensures h.invariant.1,
     )
 
@@ -73,11 +74,11 @@ pub returns-in_default : goal.returns-in_default
 returns-in_default c =
     let h = c.loop-here in
     rw c.requires.size at
-    (stop_visit h.here h.invariant.0 c.if-here-eq0.false (seen (goal.at.returns-in_default c).After-visit) _ c.in_ok-visited.was c.in_default.not-Pass)
+    (stop_visit h.here h.invariant.0 c.if-here-eq0.false (seen (goal.at.returns-in_default c).After-visit) _ (search rules) c.in_default.not-Pass)
 
 pub returns-in_err-visited : goal.returns-in_err-visited
 returns-in_err-visited c =
     let h = c.loop-here in
     rw c.from_residual.ensures
     (rw c.requires.size at
-    (end_visit h.here h.invariant.0 c.if-here-eq0.false (seen (goal.at.returns-in_err-visited c).After-visit) c.in_err-visited.was))
+    (end_visit h.here h.invariant.0 c.if-here-eq0.false (seen (goal.at.returns-in_err-visited c).After-visit) (search rules)))

@@ -1,5 +1,5 @@
 -- `tree_walk::walk` meets its contract.
-use mathlib.Core.Path.{refl}
+use Rattle.std.proofs.Common.{rules, ◌≡◌, refl, Some, None}
 use Rattle.tree_walk.specs.Updated.{rebuilt_to}
 use Rattle.tree_walk.specs.Walk.{Stopped}
 use Rattle.tree_walk.specs.WalkLaws.{walk_updated, walk_ended}
@@ -15,7 +15,8 @@ stopped c = rw c.in_ok-stop.was at c.descend.ensures
 pub returns : goal.returns
 unfolding rebuilt_to
 returns c =
-    walk_updated c.requires (stopped (goal.at.returns c).In_ok-stop) _ _ _ _ c.part.ensures c.rebuild_at.ensures (rw c.in_ok-next.was)
+    let rebuilt : c.rebuild_at.result ≡ Some c.in_ok-next.next = search rules in
+    walk_updated c.requires (stopped (goal.at.returns c).In_ok-stop) _ _ _ _ c.part.ensures c.rebuild_at.ensures (rw rebuilt)
 
 pub returns-in_err-stop : goal.returns-in_err-stop
 returns-in_err-stop c =
@@ -24,5 +25,6 @@ returns-in_err-stop c =
 pub returns-in_err-next : goal.returns-in_err-next
 unfolding rebuilt_to
 returns-in_err-next c =
+    let ended : c.rebuild_at.result ≡ None = search rules in
     walk_updated c.requires (stopped (goal.at.returns-in_err-next c).In_ok-stop) _ _ _ _ refl c.rebuild_at.ensures
-    (rw (c.from_residual-in_err-next.ensures, c.in_err-next.was))
+    (rw (c.from_residual-in_err-next.ensures, ended))

@@ -1,5 +1,5 @@
 -- `Size::candidates` meets its contract.
-use mathlib.Core.Path.{◌≡◌, ap, ◌∙◌}
+use mathlib.Core.Path.{◌≡◌, ap₂, ◌∙◌}
 use Prim.Native.Nat.{ℕ, ◌*◌, ◌^◌, ◌≤◌, ◌<◌}
 use native.Mathlib.Omega.{arith}
 use Rattle.tree_sizes.specs.Sizes.{candidates, ceil_div, digits}
@@ -33,4 +33,4 @@ pub returns : goal.returns
 unfolding candidates
 returns c =
     let at = goal.at.returns c in
-    c.div_ceil.ensures ∙ div_ceil_is _ _ (step_range at.After-power).0 ∙ ap (ceil_div c.args.self.m) (step_is at.After-power)
+    c.div_ceil.ensures ∙ div_ceil_is _ _ (step_range at.After-power).0 ∙ ap₂ ceil_div (omega arith) (step_is at.After-power)
